@@ -1,0 +1,11 @@
+pub mod Prefixes
+pub mod Endings
+pub mod Cuts
+pub mod Misfits
+pub mod Numerals
+pub mod Names
+pub mod Judgement
+pub mod Laws
+pub mod Lining
+pub mod Drafting
+pub mod ReadBack

@@ -1,0 +1,74 @@
+use mathlib.Core.Path.{_≡_, refl, sym, ap, subst, _∙_}
+use mathlib.Core.List.{List, [], _∷_, _++_}
+use Prim.Native.Nat.{ℕ, _+_, _<_, _≤_}
+use native.Mathlib.Omega.{arith}
+use lib.ListN.{length}
+use Rattle.std.proofs.shelf.Lists.{length-append, length-push}
+use Rattle.bounded.proofs.Refills.{refilled-none, refilled-from, refilled-push}
+use Rattle.bounded.specs.Entries.{Refilled}
+use Rattle.bounded.specs.declared.Bounded.{Bounded}
+use Rattle.script.specs.Format.{meaning}
+use Rattle.script.specs.Texts.{lines}
+use Rattle.script.specs.declared.faults.FaultyLine.{FaultyLine}
+use Rattle.script.proofs.Lining.{one-passed, one-told, all-told}
+use Rattle.script.proofs.checking.check.Needs as need
+use Rattle.script.proofs.checking.check.Needs.{in-Err, in-rest-read}
+
+pub loop-line-holds : need.loop-line-holds
+loop-line-holds c = (refl, omega arith, omega arith, ([], refl, refilled-none _ (c .clear .ensures .empty), λ more t. t))
+
+-- what is left is shorter by the line
+shorter : (c : need.Joined-read) → length (c .in-Some .tail .now) < length (c .loop-line .rest .now)
+shorter c =
+    let s = c .in-Some .ensures tt in
+    omega (arith, s .some, ap length (s .whole) ∙ length-append (c .in-Some .line .now) (c .in-Some .tail .now))
+
+pub loop-line-less : need.loop-line-less
+loop-line-less c = shorter c
+
+pub loop-line-again : need.loop-line-again
+loop-line-again c =
+    let i = c .loop-line .inv in
+    let cut = c .in-Some .ensures tt .cut in
+    let far : c .loop-line .number + 1 + length (c .in-Some .tail .now) ≤ 65537 = omega (arith, i .1, shorter c) in
+    elim (c .match-read .came) [
+      | in-Err w ↦
+          let e : FaultyLine = record { line = c .loop-line .number; fault = w .in-Err .fault } in (
+            ap (λ (x : Bounded FaultyLine). x .places .name) (w .faults-is) ∙ w .push .ensures .lender ∙ i .0,
+            far,
+            omega (arith, w .found-is, i .2),
+            (
+              i .3 .0 ++ e ∷ [],
+              w .found-is ∙ omega (arith, i .3 .1, length-push (i .3 .0) e),
+              subst (Refilled (c .clear .last .self) (i .3 .0 ++ e ∷ [])) (sym (w .faults-is)) (refilled-push _ _ _ (i .3 .0) e (i .3 .2) (w .push .result) (w .push .ensures .cases)),
+              one-told (lines (c .args .text .now)) (c .loop-line .rest .now) (c .in-Some .line .now) (c .in-Some .tail .now) (c .loop-line .number) (i .3 .0) cut (i .3 .3) (w .in-Err .fault) (w .in-Err .ensures tt .judged),
+            ),
+          )
+      | in-rest-read w ↦ (
+        ap (λ (x : Bounded FaultyLine). x .places .name) (w .faults-is) ∙ i .0,
+        far,
+        omega (arith, w .found-is, i .2),
+        (
+          i .3 .0,
+          w .found-is ∙ i .3 .1,
+          subst (Refilled (c .clear .last .self) (i .3 .0)) (sym (w .faults-is)) (i .3 .2),
+          one-passed (lines (c .args .text .now)) (c .loop-line .rest .now) (c .in-Some .line .now) (c .in-Some .tail .now) (c .loop-line .number) (i .3 .0) cut (i .3 .3) (meaning (w .in-rest-read .field-0)) (w .in-rest-read .ensures tt .judged),
+        ),
+      )
+    ]
+
+pub returns : need.returns
+returns c =
+    let i = c .loop-line .inv in
+    record {
+      lender = i .0 ∙ c .clear .ensures .lender;
+      cases = (
+        c .if-text-gt-TEXT-MAX .left,
+        (
+          i .3 .0,
+          all-told (lines (c .args .text .now)) (c .loop-line .rest .now) (c .loop-line .number) (i .3 .0) (c .in-rest .ensures tt) (i .3 .3),
+          i .3 .1,
+          refilled-from (c .args .faults .now) (c .clear .last .self) (c .loop-line .faults) (i .3 .0) (c .clear .ensures .empty) (c .clear .ensures .untouched) (i .3 .2),
+        ),
+      );
+    }

@@ -1,0 +1,25 @@
+//! Script lines: commands, reading a line, writing a line, checking a text.
+//! Promise: a line is read as the one command whose line it is, or refused for the one fault that it has.
+//! Rests on `bounded`, for the list of faulty lines.
+mod checking;
+mod command;
+mod draft;
+mod faults;
+mod fields;
+mod form;
+mod lines;
+mod reading;
+mod words;
+mod writing;
+
+pub use checking::check;
+pub use command::Command;
+pub use command::Mask;
+pub use faults::Cause;
+pub use faults::FaultyLine;
+pub use faults::LineFault;
+pub use faults::TextRefusal;
+pub use faults::WriteRefusal;
+pub use lines::first_line;
+pub use reading::read;
+pub use writing::write;

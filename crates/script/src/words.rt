@@ -1,0 +1,75 @@
+ghost use mathlib.Core.List.{List, _++_};
+ghost use mathlib.Core.Path.{_≡_};
+ghost use Prim.Native.Nat.{ℕ};
+ghost use lib.ListN.{length};
+ghost use Rattle.std.specs.Options.{Cases as BySome};
+ghost use Rattle.script.specs.Format.{name, shape, meaning};
+use crate::command::Command;
+use crate::command::Word;
+
+impl Word {
+    // The word as it is written.
+    pub fn name(self) -> &'static [u8]
+        ensures { λ r. ⌜ now r ≡ name self ⌝ }
+    {
+        match self {
+            Word::Hall => b"HALL",
+            Word::PumpType => b"TYPE",
+            Word::Add => b"ADD",
+            Word::Withdraw => b"WITHDRAW",
+            Word::Take => b"TAKE",
+            Word::Shut => b"SHUT",
+            Word::Open => b"OPEN",
+            Word::Report => b"REPORT",
+            Word::Note => b"NOTE",
+        }
+    }
+
+    // How many fields follow the word.
+    pub fn arity(self) -> usize
+        ensures { λ r. ⌜ r ≡ length (shape self) ⌝ }
+    {
+        match self {
+            Word::Hall | Word::Add | Word::Withdraw => 2,
+            Word::PumpType | Word::Take | Word::Shut | Word::Open | Word::Note => 1,
+            Word::Report => 0,
+        }
+    }
+}
+
+impl Command<'_> {
+    // The word that the command's line begins with.
+    pub fn word(self) -> Word
+        ensures { λ r. ⌜ r ≡ meaning (self .entry) .0 ⌝ }
+    {
+        match self {
+            Command::Hall { .. } => Word::Hall,
+            Command::PumpType(_) => Word::PumpType,
+            Command::Add { .. } => Word::Add,
+            Command::Withdraw { .. } => Word::Withdraw,
+            Command::Take { .. } => Word::Take,
+            Command::Shut { .. } => Word::Shut,
+            Command::Open { .. } => Word::Open,
+            Command::Report => Word::Report,
+            Command::Note(_) => Word::Note,
+        }
+    }
+}
+
+// The word that these bytes begin with, and what follows it.
+pub fn split_word(bytes: &[u8]) -> Option<(Word, &[u8])>
+    ensures { λ r. ⌜ BySome r ((w : Word) (rest : List ℕ) → now (bytes .entry) ≡ name w ++ rest → ⊥) (λ x. now (bytes .entry) ≡ name (x .0) ++ now (x .1)) ⌝ }
+{
+    match bytes {
+        [b'H', b'A', b'L', b'L', rest @ ..] => Some((Word::Hall, rest)),
+        [b'T', b'Y', b'P', b'E', rest @ ..] => Some((Word::PumpType, rest)),
+        [b'A', b'D', b'D', rest @ ..] => Some((Word::Add, rest)),
+        [b'W', b'I', b'T', b'H', b'D', b'R', b'A', b'W', rest @ ..] => Some((Word::Withdraw, rest)),
+        [b'T', b'A', b'K', b'E', rest @ ..] => Some((Word::Take, rest)),
+        [b'S', b'H', b'U', b'T', rest @ ..] => Some((Word::Shut, rest)),
+        [b'O', b'P', b'E', b'N', rest @ ..] => Some((Word::Open, rest)),
+        [b'R', b'E', b'P', b'O', b'R', b'T', rest @ ..] => Some((Word::Report, rest)),
+        [b'N', b'O', b'T', b'E', rest @ ..] => Some((Word::Note, rest)),
+        _ => None,
+    }
+}

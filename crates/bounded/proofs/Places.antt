@@ -1,21 +1,22 @@
--- Places cut into the used and the spare ones. Assumes nothing.
-use mathlib.Core.Path.{_≡_, refl, sym, ap, _∙_}
-use mathlib.Core.List.{List, [], _∷_, _++_}
-use Prim.Native.Nat.{ℕ, _+_, _-_, _<_, _≤_}
+-- An entry that takes the first spare place. Assumes nothing.
+use mathlib.Core.Path.{_≡_, sym, ap, _∙_}
+use mathlib.Core.List.{List}
+use Prim.Native.Nat.{ℕ, _+_, _<_}
 use native.Mathlib.Omega.{arith}
-use lib.ListN.{length, take, drop, set, getD}
-use Rattle.std.proofs.shelf.Lists.{length-append, length-drop, take-append-drop, drop-set-lt, drop-drop, getD-take}
+use lib.ListN.{length, take, drop, set}
+use denote.Ref.{now}
+use Rattle.std.proofs.shelf.Lists.{length-drop, take-more-set, drop-set-lt, drop-drop}
+use Rattle.bounded.specs.Entries.{Joins}
+use Rattle.bounded.specs.declared.Bounded.{Bounded}
 
-pub parts-length : {E : Type 0} (xs : List E) (n : ℕ) → length xs ≡ length (take n xs) + length (drop n xs)
-parts-length xs n = ap length (sym (take-append-drop n xs)) ∙ length-append (take n xs) (drop n xs)
-
--- a place is left where not all are used
-pub some-spare : {E : Type 0} (xs : List E) (n : ℕ) → n < length xs → 0 < length (drop n xs)
-some-spare xs n h = omega (arith, length-drop n xs)
-
--- writing to the first spare place leaves the places after it
-pub rest-stays : {E : Type 0} (xs : List E) (n : ℕ) (x : E) → drop (n + 1) (set xs n x) ≡ drop 1 (drop n xs)
-rest-stays xs n x = drop-set-lt (n + 1) xs n x (omega arith) ∙ sym (drop-drop 1 n xs)
-
-pub read-used : {E : Type 0} (xs : List E) (n i : ℕ) (x : E) → i < n → x ≡ getD xs i x → x ≡ getD (take n xs) i x
-read-used xs n i x h e = e ∙ sym (getD-take n xs i x h)
+pub joins : {E : Type 0} (before after : Bounded E) (x : E) → before .used < length (now (before .places)) → after .used ≡ before .used + 1 → now (after .places) ≡ set (now (before .places)) (before .used) x → Joins before x after
+joins before after x h n e =
+    let places = now (before .places) in
+    let used = before .used in
+    record {
+      room = omega (arith, length-drop used places);
+      held = ap (λ (k : ℕ). take k (now (after .places))) n ∙ ap (take (used + 1)) e ∙ take-more-set places used x h;
+      rest =
+          ap (λ (k : ℕ). drop k (now (after .places))) n ∙ ap (drop (used + 1)) e
+          ∙ drop-set-lt (used + 1) places used x (omega arith) ∙ sym (drop-drop 1 used places);
+    }

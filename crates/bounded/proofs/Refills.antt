@@ -12,23 +12,23 @@ use Rattle.std.specs.declared.result.Result.the-variants.{Ok, Err}
 use Rattle.bounded.specs.Entries.{entries, spare, Joins, Stays, Refilled}
 use Rattle.bounded.specs.declared.Bounded.{Bounded}
 
-same-places : {E : Type 0} (b : Bounded E) → entries b ++ spare b ≡ now (b .places)
-same-places b = take-append-drop (b .used) (now (b .places))
+-- an empty list has all its places to spare
+pub all-spare : {E : Type 0} (b : Bounded E) → entries b ≡ [] → spare b ≡ now (b .places)
+all-spare b e = ap (λ xs. xs ++ spare b) (sym e) ∙ take-append-drop (b .used) (now (b .places))
 
 -- an empty list was given nothing
 pub refilled-none : {E : Type 0} (b : Bounded E) → entries b ≡ [] → Refilled b [] b
-refilled-none {E} b e =
+refilled-none b e =
     record {
       held = e ∙ sym (take-all (length (now (b .places))) [] (omega arith));
-      rest = ap (λ (xs : List E). xs ++ spare b) (sym e) ∙ same-places b;
+      rest = all-spare b e;
     }
 
 -- filled from where it was emptied, and so from before
-pub refilled-from : {E : Type 0} (before empty after : Bounded E) (es : List E) → entries empty ≡ [] → spare empty ≡ entries before ++ spare before → Refilled empty es after → Refilled before es after
-refilled-from {E} before empty after es e s r =
-    let p : now (empty .places) ≡ now (before .places) = sym (same-places empty) ∙ ap (λ (xs : List E). xs ++ spare empty) e ∙ s ∙ same-places before in
+pub refilled-from : {E : Type 0} (before empty after : Bounded E) (es : List E) → now (empty .places) ≡ now (before .places) → Refilled empty es after → Refilled before es after
+refilled-from before empty after es p r =
     record {
-      held = r .held ∙ ap (λ (xs : List E). take (length xs) es) p;
+      held = r .held ∙ ap (λ xs. take (length xs) es) p;
       rest = r .rest ∙ ap (drop (length es)) p;
     }
 
@@ -48,9 +48,11 @@ module _ {E : Type 0} (before middle after : Bounded E) (es : List E) (x : E) (s
   refilled-full f s =
       let full : length (now (before .places)) ≤ length es = omega (arith, ap length (sym (so .rest) ∙ f), length-drop (length es) (now (before .places))) in
       let p : length (es ++ x ∷ []) ≡ length es + 1 = length-push es x in
+      let e : entries after ≡ entries middle = ap (λ (n : ℕ). take n (now (after .places))) (s .count) ∙ ap (take (middle .used)) (s .held) in
+      let r : spare after ≡ spare middle = ap (λ (n : ℕ). drop n (now (after .places))) (s .count) ∙ ap (drop (middle .used)) (s .held) in
       record {
-        held = s .held ∙ so .held ∙ sym (take-append-le (length (now (before .places))) es (x ∷ []) full);
-        rest = s .rest ∙ f ∙ sym (drop-all (length (es ++ x ∷ [])) (now (before .places)) (omega arith));
+        held = e ∙ so .held ∙ sym (take-append-le (length (now (before .places))) es (x ∷ []) full);
+        rest = r ∙ f ∙ sym (drop-all (length (es ++ x ∷ [])) (now (before .places)) (omega arith));
       }
 
   -- whether the list had room or not

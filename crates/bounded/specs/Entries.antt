@@ -20,10 +20,10 @@ pub record Joins {E : Type 0} (before : Bounded E) (x : E) (after : Bounded E) :
   pub held : entries after ≡ entries before ++ x ∷ []
   pub rest : spare after ≡ drop 1 (spare before)
 
--- Entries and spare places are as they were.
+-- The list is as it was.
 pub record Stays {E : Type 0} (before after : Bounded E) : Type 0 where
-  pub held : entries after ≡ entries before
-  pub rest : spare after ≡ spare before
+  pub count : after .used ≡ before .used
+  pub held : now (after .places) ≡ now (before .places)
 
 -- The list was emptied and then given these entries: it has the first ones, as far as its places go,
 -- and the places after them stand as they did.

@@ -13,7 +13,6 @@ use Rattle.script.specs.Format.{Meaning}
 use Rattle.script.specs.Texts.{lines, onto, StartsWith, FaultyOnes, none, passed, told}
 use Rattle.script.specs.Verdicts.{Judged, accepted, faulty}
 use Rattle.script.specs.declared.faults.FaultyLine.{FaultyLine}
-use Rattle.script.specs.declared.faults.LineFault.{LineFault}
 
 -- A byte that does not end a line.
 abbrev pub Inner : ℕ → Type 0
@@ -35,25 +34,27 @@ only-line [] l h = absurd (omega arith)
 only-line (a ∷ f) l h = line-last a f h
 
 -- the first line goes to the first end byte
-pub starts-at : (xs l r : List ℕ) (i : ℕ) → l ≡ take (i + 1) xs → r ≡ drop (i + 1) xs → i < length xs → getD xs i 0 ≡ 10 → Every Inner (take i xs) → StartsWith xs l r
-starts-at xs l r i p q lt e h =
-    let d : drop i xs ≡ 10 ∷ r = drop-more xs i 0 lt ∙ ap (λ (x : ℕ). x ∷ drop (i + 1) xs) e ∙ ap (λ (ys : List ℕ). 10 ∷ ys) (sym q) in
-    let t : l ≡ take i xs ++ 10 ∷ [] = p ∙ take-more xs i 0 lt ∙ ap (λ (x : ℕ). take i xs ++ x ∷ []) e in
-    let w : xs ≡ take i xs ++ 10 ∷ r = sym (take-append-drop i xs) ∙ ap (λ (ys : List ℕ). take i xs ++ ys) d in
+pub starts-at : (xs : List ℕ) (i : ℕ) → i < length xs → getD xs i 0 ≡ 10 → Every Inner (take i xs) → StartsWith xs (take (i + 1) xs) (drop (i + 1) xs)
+starts-at xs i lt e h =
+    let d : drop i xs ≡ 10 ∷ drop (i + 1) xs = drop-more xs i 0 lt ∙ ap (λ (x : ℕ). x ∷ drop (i + 1) xs) e in
+    let t : take (i + 1) xs ≡ take i xs ++ 10 ∷ [] = take-more xs i 0 lt ∙ ap (λ (x : ℕ). take i xs ++ x ∷ []) e in
+    let w : xs ≡ take i xs ++ 10 ∷ drop (i + 1) xs = sym (take-append-drop i xs) ∙ ap (λ (ys : List ℕ). take i xs ++ ys) d in
     record {
-      cut = ap lines w ∙ line-at (take i xs) r h ∙ ap (λ (ys : List ℕ). ys ∷ lines r) (sym t);
-      whole = sym (take-append-drop (i + 1) xs) ∙ ap (λ (ys : List ℕ). ys ++ drop (i + 1) xs) (sym p) ∙ ap (λ (ys : List ℕ). l ++ ys) (sym q);
-      some = omega (arith, ap length p, length-take (i + 1) xs);
+      cut = ap lines w ∙ line-at (take i xs) (drop (i + 1) xs) h ∙ ap (λ (ys : List ℕ). ys ∷ lines (drop (i + 1) xs)) (sym t);
+      whole = sym (take-append-drop (i + 1) xs);
+      some = omega (arith, length-take (i + 1) xs);
     }
 
 -- a text without an end byte is one line
-pub starts-all : (xs r : List ℕ) (i : ℕ) → 0 < length xs → length xs ≤ i → r ≡ [] → Every Inner (take i xs) → StartsWith xs xs r
-starts-all xs r i l k q h =
+pub starts-all : (xs : List ℕ) (i : ℕ) → 0 < length xs → length xs ≤ i → Every Inner (take i xs) → StartsWith xs (take (length xs) xs) (drop (length xs) xs)
+starts-all xs i l k h =
     let g : Every Inner xs = subst (Every Inner) (take-all i xs k) h in
+    let t : take (length xs) xs ≡ xs = take-all (length xs) xs (omega arith) in
+    let d : drop (length xs) xs ≡ [] = drop-all (length xs) xs (omega arith) in
     record {
-      cut = only-line xs l g ∙ ap (λ (ys : List ℕ). xs ∷ lines ys) (sym q);
-      whole = sym (append-nil xs) ∙ ap (λ (ys : List ℕ). xs ++ ys) (sym q);
-      some = l;
+      cut = only-line xs l g ∙ ap (λ (ys : List ℕ). ys ∷ []) (sym t) ∙ ap (λ (ys : List ℕ). take (length xs) xs ∷ lines ys) (sym d);
+      whole = sym (take-append-drop (length xs) xs);
+      some = omega (arith, length-take (length xs) xs);
     }
 
 -- Lines judged so far: whatever the rest tells, the whole tells it after these.
@@ -64,10 +65,11 @@ module _ (all : List (List ℕ)) (rest line tail : List ℕ) (n : ℕ) (es : Lis
   pub one-passed : (m : Meaning) → Judged line (accepted m) → SoFar all (n + 1) (lines tail) es
   one-passed m j more t = so more (subst (λ (ls : List (List ℕ)). FaultyOnes n ls more) (sym cut) (passed m j t))
 
-  pub one-told : (f : LineFault) → Judged line (faulty f) → SoFar all (n + 1) (lines tail) (es ++ (record { line = n; fault = f }) ∷ [])
-  one-told f j more t =
-      subst (FaultyOnes 1 all) (sym (append-assoc es ((record { line = n; fault = f }) ∷ []) more))
-      (so ((record { line = n; fault = f }) ∷ more) (subst (λ (ls : List (List ℕ)). FaultyOnes n ls ((record { line = n; fault = f }) ∷ more)) (sym cut) (told f j t)))
+  pub one-told : (e : FaultyLine) → Judged line (faulty (e .fault)) → e .line ≡ n → SoFar all (n + 1) (lines tail) (es ++ e ∷ [])
+  one-told e j is more t =
+      let own : FaultyOnes n (line ∷ lines tail) (e ∷ more) = subst (λ (k : ℕ). FaultyOnes n (line ∷ lines tail) (record { line = k; fault = e .fault } ∷ more)) (sym is) (told (e .fault) j t) in
+      subst (FaultyOnes 1 all) (sym (append-assoc es (e ∷ []) more))
+      (so (e ∷ more) (subst (λ (ls : List (List ℕ)). FaultyOnes n ls (e ∷ more)) (sym cut) own))
 
 pub all-told : (all : List (List ℕ)) (rest : List ℕ) (n : ℕ) (es : List FaultyLine) → rest ≡ [] → SoFar all n (lines rest) es → FaultyOnes 1 all es
 all-told all rest n es e so =

@@ -7,13 +7,15 @@ use lib.ListN.{length, getD, take, drop}
 use Rattle.std.proofs.shelf.Lists.{length-push, same-from-push, take-at}
 use Rattle.script.specs.Format.{Meaning, meaning, name, shape, fields, front, commas, line, Accepted, Faulty}
 use Rattle.script.specs.Parts.{parts, after}
-use Rattle.script.specs.Verdicts.{accepted, Written, A-Written-Command-Reads-Back-As-Itself}
+use Rattle.script.specs.Verdicts.{accepted, Written, Unwritten, A-Written-Command-Reads-Back-As-Itself}
 use Rattle.script.specs.declared.command.Command.{Command}
 use Rattle.script.specs.declared.command.Command.the-variants as command
-use Rattle.script.specs.declared.faults.Cause.the-variants.{Malformed, UnknownWord}
+use Rattle.script.specs.declared.faults.Cause.the-variants.{Malformed, UnknownWord, FieldCount, BadField}
+use Rattle.script.specs.declared.writing.WriteRefusal.{WriteRefusal}
+use Rattle.script.specs.declared.writing.WriteRefusal.the-variants as unwritten
 use Rattle.script.proofs.Cuts.{cut-at, ends-commas, parts-joined}
 use Rattle.script.proofs.Names.{name-whole}
-use Rattle.script.proofs.Laws.{AllHeld, all-held, same-meaning, one-verdict}
+use Rattle.script.proofs.Laws.{AllHeld, all-held, not-faulty, same-meaning, one-verdict}
 
 -- The numbers of a command have 16 bits.
 abbrev pub Sized : Command → Type 0
@@ -66,3 +68,17 @@ pub written : (before after : List ℕ) (m : Meaning) (n : ℕ) → n ≡ length
 written before after m n e h w a =
     let t : line m ≡ take n after = sym (ap (take n) w ∙ take-at (line m) (drop n before) n (sym e)) in
     record { count = e; room = h; bytes = w; back = subst (λ (l : List ℕ). A-Written-Command-Reads-Back-As-Itself l m) t (back m a) }
+
+not-refused : (m : Meaning) (room : ℕ) (e : WriteRefusal) → Accepted (line m) m → 81 ≤ room → Unwritten m room e → ⊥
+not-refused m room unwritten.Malformed a h u = not-faulty (line m) m Malformed 0 a u
+not-refused m room unwritten.FieldCount a h u = not-faulty (line m) m FieldCount 0 a u
+not-refused m room unwritten.BadField a h u = not-faulty (line m) m BadField (u .0) a (u .1)
+not-refused m room unwritten.NoRoom a h u = omega (arith, u .1, length-push (front m) 10, a .form .short)
+
+-- what was read can be written where a well-formed line has room
+pub accepted-writes : (l : List ℕ) (m : Meaning) (room : ℕ) (e : WriteRefusal) → Accepted l m → 81 ≤ room → Unwritten m room e → ⊥
+accepted-writes l m room e a h u = not-refused m room e (subst (λ (x : List ℕ). Accepted x m) (a .form .ended) a) h u
+
+-- the bytes written are the command's line
+pub written-line : (before after : List ℕ) (m : Meaning) (n : ℕ) → Written before m n after → take n after ≡ line m
+written-line before after m n w = ap (take n) (w .bytes) ∙ take-at (line m) (drop n before) n (sym (w .count))

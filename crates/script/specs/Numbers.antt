@@ -2,10 +2,10 @@
 use Prim.Native.Nat.{ℕ}
 use Rattle.script.specs.declared.faults.Cause.{Cause}
 use Rattle.script.specs.declared.faults.Cause.the-variants as cause
-use Rattle.script.specs.declared.faults.WriteRefusal.{WriteRefusal}
-use Rattle.script.specs.declared.faults.WriteRefusal.the-variants as unwritten
-use Rattle.script.specs.declared.faults.TextRefusal.{TextRefusal}
-use Rattle.script.specs.declared.faults.TextRefusal.the-variants as unchecked
+use Rattle.script.specs.declared.writing.WriteRefusal.{WriteRefusal}
+use Rattle.script.specs.declared.writing.WriteRefusal.the-variants as unwritten
+use Rattle.script.specs.declared.checking.TextRefusal.{TextRefusal}
+use Rattle.script.specs.declared.checking.TextRefusal.the-variants as unchecked
 
 abbrev pub causeNumber : Cause → ℕ
 causeNumber cause.Malformed = 8

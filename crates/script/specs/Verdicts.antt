@@ -10,8 +10,8 @@ use Rattle.script.specs.declared.command.Command.{Command}
 use Rattle.script.specs.declared.command.Command.the-variants as command
 use Rattle.script.specs.declared.faults.Cause.the-variants.{Malformed, FieldCount, BadField}
 use Rattle.script.specs.declared.faults.LineFault.{LineFault}
-use Rattle.script.specs.declared.faults.WriteRefusal.{WriteRefusal}
-use Rattle.script.specs.declared.faults.WriteRefusal.the-variants as unwritten
+use Rattle.script.specs.declared.writing.WriteRefusal.{WriteRefusal}
+use Rattle.script.specs.declared.writing.WriteRefusal.the-variants as unwritten
 
 -- A line is the line of a command, or has a fault.
 pub data Verdict : Type 0 where

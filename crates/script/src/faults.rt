@@ -1,5 +1,5 @@
 ghost use mathlib.Core.Path.{_≡_};
-ghost use Rattle.script.specs.Numbers.{causeNumber, writeNumber, textNumber};
+ghost use Rattle.script.specs.Numbers.{causeNumber};
 
 /// Why a line is faulty. The value is the number by which the refusal is told.
 #[derive(Clone, Copy, PartialEq, Eq, Debug)]
@@ -30,47 +30,26 @@ pub struct LineFault {
     pub field: u8,
 }
 
+impl LineFault {
+    pub const MALFORMED: LineFault = LineFault {
+        cause: Cause::Malformed,
+        field: 0,
+    };
+
+    pub const UNKNOWN_WORD: LineFault = LineFault {
+        cause: Cause::UnknownWord,
+        field: 1,
+    };
+
+    pub const FIELD_COUNT: LineFault = LineFault {
+        cause: Cause::FieldCount,
+        field: 0,
+    };
+}
+
 /// A faulty line of a text, by its number from 1.
 #[derive(Clone, Copy, PartialEq, Eq, Debug)]
 pub struct FaultyLine {
     pub line: u32,
     pub fault: LineFault,
-}
-
-/// Why a command is not written.
-#[derive(Clone, Copy, PartialEq, Eq, Debug)]
-pub enum WriteRefusal {
-    /// Its line would have over 80 bytes before its end byte, or a byte outside 32 to 126.
-    Malformed = 8,
-    /// Its line would have another number of fields: the text of a note has a comma.
-    FieldCount = 10,
-    /// One of its values is out of range.
-    BadField = 11,
-    /// Its line is longer than the bytes handed in.
-    NoRoom = 12,
-}
-
-impl WriteRefusal {
-    /// The number by which the refusal is told.
-    pub fn number(self) -> u8
-        ensures { λ r. ⌜ r ≡ writeNumber self ⌝ }
-    {
-        self as u8
-    }
-}
-
-/// Why a text is not checked.
-#[derive(Clone, Copy, PartialEq, Eq, Debug)]
-pub enum TextRefusal {
-    /// It has more than 65,536 bytes.
-    TooLong = 7,
-}
-
-impl TextRefusal {
-    /// The number by which the refusal is told.
-    pub fn number(self) -> u8
-        ensures { λ r. ⌜ r ≡ textNumber self ⌝ }
-    {
-        self as u8
-    }
 }

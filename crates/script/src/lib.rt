@@ -12,14 +12,16 @@ mod reading;
 mod words;
 mod writing;
 
+pub use checking::TEXT_MAX;
+pub use checking::TextRefusal;
 pub use checking::check;
 pub use command::Command;
 pub use command::Mask;
 pub use faults::Cause;
 pub use faults::FaultyLine;
 pub use faults::LineFault;
-pub use faults::TextRefusal;
-pub use faults::WriteRefusal;
+pub use form::LINE_BYTES;
 pub use lines::first_line;
 pub use reading::read;
+pub use writing::WriteRefusal;
 pub use writing::write;

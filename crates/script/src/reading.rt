@@ -12,7 +12,6 @@ ghost use Rattle.script.specs.Verdicts.{The-Line-Has-No-Other-Verdict, An-Acce
 use crate::command::Command;
 use crate::command::Mask;
 use crate::command::Word;
-use crate::faults::Cause;
 use crate::faults::LineFault;
 use crate::fields::Count;
 use crate::fields::CountField;
@@ -88,22 +87,13 @@ fn judge<'a>(line: &'a [u8]) -> Result<Command<'a>, LineFault>
     ensures tidy { λ r. ⌜ made r Tidy ⌝ }
 {
     let Some(front) = front_of(line) else {
-        return Err(LineFault {
-            cause: Cause::Malformed,
-            field: 0,
-        });
+        return Err(LineFault::MALFORMED);
     };
     let Some((word, rest)) = read_word(front) else {
-        return Err(LineFault {
-            cause: Cause::UnknownWord,
-            field: 1,
-        });
+        return Err(LineFault::UNKNOWN_WORD);
     };
     if count_commas(rest) != word.arity() {
-        return Err(LineFault {
-            cause: Cause::FieldCount,
-            field: 0,
-        });
+        return Err(LineFault::FIELD_COUNT);
     }
     read_fields(word, rest)
 }

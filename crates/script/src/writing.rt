@@ -2,14 +2,36 @@ ghost use mathlib.Core.Path.{_≡_};
 ghost use lib.ListN.{length};
 ghost use Rattle.std.specs.Results.{Cases};
 ghost use Rattle.script.specs.Format.{meaning};
+ghost use Rattle.script.specs.Numbers.{writeNumber};
 ghost use Rattle.script.specs.Verdicts.{Written, Unwritten};
 use crate::command::Command;
 use crate::draft::put_line;
 use crate::faults::Cause;
-use crate::faults::WriteRefusal;
 use crate::form::LINE_BYTES;
 use crate::reading::read;
 use bounded::Bounded;
+
+/// Why a command is not written.
+#[derive(Clone, Copy, PartialEq, Eq, Debug)]
+pub enum WriteRefusal {
+    /// Its line would have over 80 bytes before its end byte, or a byte outside 32 to 126.
+    Malformed = 8,
+    /// Its line would have another number of fields: the text of a note has a comma.
+    FieldCount = 10,
+    /// One of its values is out of range.
+    BadField = 11,
+    /// Its line is longer than the bytes handed in.
+    NoRoom = 12,
+}
+
+impl WriteRefusal {
+    /// The number by which the refusal is told.
+    pub fn number(self) -> u8
+        ensures { λ r. ⌜ r ≡ writeNumber self ⌝ }
+    {
+        self as u8
+    }
+}
 
 /// Writes a command's line, end byte included, at the start of `out` and answers its length.
 /// The bytes after it stay; at a refusal all do.

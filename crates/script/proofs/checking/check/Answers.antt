@@ -7,18 +7,17 @@ use Rattle.std.proofs.shelf.Lists.{length-append, length-push}
 use Rattle.bounded.proofs.Refills.{refilled-none, refilled-from, refilled-push}
 use Rattle.bounded.specs.Entries.{Refilled}
 use Rattle.bounded.specs.declared.Bounded.{Bounded}
-use Rattle.script.specs.Format.{meaning}
 use Rattle.script.specs.Texts.{lines}
 use Rattle.script.specs.declared.faults.FaultyLine.{FaultyLine}
 use Rattle.script.proofs.Lining.{one-passed, one-told, all-told}
 use Rattle.script.proofs.checking.check.Needs as need
-use Rattle.script.proofs.checking.check.Needs.{in-Err, in-rest-read}
+use Rattle.script.proofs.checking.check.Needs.{in-Some-faulty-line, in-rest-faulty-line}
 
 pub loop-line-holds : need.loop-line-holds
 loop-line-holds c = (refl, omega arith, omega arith, ([], refl, refilled-none _ (c .clear .ensures .empty), λ more t. t))
 
 -- what is left is shorter by the line
-shorter : (c : need.Joined-read) → length (c .in-Some .tail .now) < length (c .loop-line .rest .now)
+shorter : (c : need.Joined-faulty-line) → length (c .in-Some .tail .now) < length (c .loop-line .rest .now)
 shorter c =
     let s = c .in-Some .ensures tt in
     omega (arith, s .some, ap length (s .whole) ∙ length-append (c .in-Some .line .now) (c .in-Some .tail .now))
@@ -31,9 +30,10 @@ loop-line-again c =
     let i = c .loop-line .inv in
     let cut = c .in-Some .ensures tt .cut in
     let far : c .loop-line .number + 1 + length (c .in-Some .tail .now) ≤ 65537 = omega (arith, i .1, shorter c) in
-    elim (c .match-read .came) [
-      | in-Err w ↦
-          let e : FaultyLine = record { line = c .loop-line .number; fault = w .in-Err .fault } in (
+    elim (c .match-faulty-line .came) [
+      | in-Some-faulty-line w ↦
+          let e = w .in-Some-faulty-line .entry in
+          let t = w .in-Some-faulty-line .ensures tt in (
             ap (λ (x : Bounded FaultyLine). x .places .name) (w .faults-is) ∙ w .push .ensures .lender ∙ i .0,
             far,
             omega (arith, w .found-is, i .2),
@@ -41,10 +41,10 @@ loop-line-again c =
               i .3 .0 ++ e ∷ [],
               w .found-is ∙ omega (arith, i .3 .1, length-push (i .3 .0) e),
               subst (Refilled (c .clear .last .self) (i .3 .0 ++ e ∷ [])) (sym (w .faults-is)) (refilled-push _ _ _ (i .3 .0) e (i .3 .2) (w .push .result) (w .push .ensures .cases)),
-              one-told (lines (c .args .text .now)) (c .loop-line .rest .now) (c .in-Some .line .now) (c .in-Some .tail .now) (c .loop-line .number) (i .3 .0) cut (i .3 .3) (w .in-Err .fault) (w .in-Err .ensures tt .judged),
+              one-told (lines (c .args .text .now)) (c .loop-line .rest .now) (c .in-Some .line .now) (c .in-Some .tail .now) (c .loop-line .number) (i .3 .0) cut (i .3 .3) e (t .0) (t .1),
             ),
           )
-      | in-rest-read w ↦ (
+      | in-rest-faulty-line w ↦ (
         ap (λ (x : Bounded FaultyLine). x .places .name) (w .faults-is) ∙ i .0,
         far,
         omega (arith, w .found-is, i .2),
@@ -52,7 +52,7 @@ loop-line-again c =
           i .3 .0,
           w .found-is ∙ i .3 .1,
           subst (Refilled (c .clear .last .self) (i .3 .0)) (sym (w .faults-is)) (i .3 .2),
-          one-passed (lines (c .args .text .now)) (c .loop-line .rest .now) (c .in-Some .line .now) (c .in-Some .tail .now) (c .loop-line .number) (i .3 .0) cut (i .3 .3) (meaning (w .in-rest-read .field-0)) (w .in-rest-read .ensures tt .judged),
+          one-passed (lines (c .args .text .now)) (c .loop-line .rest .now) (c .in-Some .line .now) (c .in-Some .tail .now) (c .loop-line .number) (i .3 .0) cut (i .3 .3) (w .in-rest-faulty-line .ensures tt .0) (w .in-rest-faulty-line .ensures tt .1),
         ),
       )
     ]
@@ -68,7 +68,7 @@ returns c =
           i .3 .0,
           all-told (lines (c .args .text .now)) (c .loop-line .rest .now) (c .loop-line .number) (i .3 .0) (c .in-rest .ensures tt) (i .3 .3),
           i .3 .1,
-          refilled-from (c .args .faults .now) (c .clear .last .self) (c .loop-line .faults) (i .3 .0) (c .clear .ensures .empty) (c .clear .ensures .untouched) (i .3 .2),
+          refilled-from (c .args .faults .now) (c .clear .last .self) (c .loop-line .faults) (i .3 .0) (c .clear .ensures .untouched) (i .3 .2),
         ),
       );
     }

@@ -5,6 +5,7 @@ use native.Mathlib.Omega.{arith}
 use borrow.Author.Needs.{needs}
 use borrow.Rule.Slice.PartMut.{postOf}
 use lib.ListN.{length, drop}
+use Rattle.bounded.proofs.Refills.{all-spare}
 use Rattle.bounded.specs.Entries.{entries, spare}
 use Rattle.bounded.specs.declared.Bounded.{Bounded}
 use Rattle.script.specs.Drafts.{Extends}
@@ -22,7 +23,7 @@ past n xs = let e : n - 0 ≡ n = omega arith in ap (λ (k : ℕ). drop k xs) e
 
 pub returns-in-rest : need.returns-in-rest
 returns-in-rest c =
-    let n : length (spare (c .new-draft .result)) ≡ 81 = ap length (c .new-draft .ensures .untouched) in
+    let n : length (spare (c .new-draft .result)) ≡ 81 = ap length (all-spare (c .new-draft .result) (c .new-draft .ensures .empty) ∙ c .new-draft .ensures .untouched) in
     (refl, too-long (meaning (c .args .command)) (omega (arith, c .in-rest .ensures tt .wrote)))
 
 pub unreachable-requires : need.unreachable-requires

@@ -8,7 +8,7 @@ ghost use denote.Ref.{now};
 mod calls;
 
 /// The list has no place left, and took nothing.
-#[derive(Clone, Copy, PartialEq, Eq, Debug)]
+#[derive(Clone, Copy)]
 pub struct Full;
 
 /// A list in places lent by its owner: the first `used` of them hold its entries, in order.

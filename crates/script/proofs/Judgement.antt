@@ -15,7 +15,7 @@ use Rattle.script.specs.Format.{Meaning, meaning, name, shape, fields, front, 
 use Rattle.script.specs.Parts.{parts, Says, Misfit}
 use Rattle.script.specs.declared.command.Word.{Word}
 use Rattle.script.specs.declared.faults.Cause.{Cause}
-use Rattle.script.specs.declared.faults.Cause.the-variants.{UnknownWord, FieldCount, BadField}
+use Rattle.script.specs.declared.faults.Cause.the-variants.{UnknownWord, FieldCount}
 use Rattle.script.specs.declared.faults.LineFault.{LineFault}
 use Rattle.script.proofs.Cuts.{rejoined, length-parts, parts-apart}
 

@@ -1,9 +1,9 @@
 -- One verdict for each line, and one line for each command. Assumes nothing.
 use mathlib.Core.Path.{_≡_, refl, sym, ap, subst, _∙_}
-use mathlib.Core.List.{List, [], _∷_, _++_, map}
+use mathlib.Core.List.{List, [], _∷_, map}
 use mathlib.Core.Bool.{Bool, true, false, cond}
-use mathlib.Core.Logic.{_⊎_, inl, inr}
-use Prim.Native.Nat.{ℕ, suc, _+_, _<_, _≤_}
+use mathlib.Core.Logic.{inl, inr}
+use Prim.Native.Nat.{ℕ, suc, _+_, _≤_}
 use native.Mathlib.Omega.{arith}
 use lib.Dec.{eqb}
 use lib.ListN.{length, getD, drop}
@@ -14,7 +14,7 @@ use Rattle.std.proofs.shelf.Decimals.{decimal-reads}
 use Rattle.std.proofs.shelf.Elements.{all-from-getD}
 use Rattle.std.proofs.shelf.Lists.{same-from-push, append-nil}
 use Rattle.std.proofs.shelf.Numerals.{digit-at}
-use Rattle.script.specs.Format.{name, shape, Form, number, count, mask, text, Value, Fit, shown, Values, AllFit, shownAll, Meaning, fields, commas, front, line, NotComma, Commaless, WellFormed, Accepted, Parted, Good, FirstBad, Faulty}
+use Rattle.script.specs.Format.{name, shape, Form, number, count, mask, text, Value, Fit, shown, Values, AllFit, shownAll, Meaning, fields, commas, front, NotComma, Commaless, WellFormed, Accepted, Parted, FirstBad, Faulty}
 use Rattle.script.specs.Parts.{parts, after}
 use Rattle.script.specs.Verdicts.{Verdict, accepted, faulty, Judged, An-Accepted-Line-Is-The-Only-Line-Of-Its-Command}
 use Rattle.script.specs.declared.command.Word.{Word}

@@ -13,6 +13,8 @@ use Rattle.script.specs.Format.{Meaning}
 use Rattle.script.specs.Texts.{lines, onto, StartsWith, FaultyOnes, none, passed, told}
 use Rattle.script.specs.Verdicts.{Judged, accepted, faulty}
 use Rattle.script.specs.declared.faults.FaultyLine.{FaultyLine}
+use Rattle.script.specs.declared.faults.LineFault.{LineFault}
+use Rattle.script.proofs.Laws.{not-faulty, one-verdict}
 
 -- A byte that does not end a line.
 abbrev pub Inner : ℕ → Type 0
@@ -74,3 +76,21 @@ module _ (all : List (List ℕ)) (rest line tail : List ℕ) (n : ℕ) (es : Lis
 pub all-told : (all : List (List ℕ)) (rest : List ℕ) (n : ℕ) (es : List FaultyLine) → rest ≡ [] → SoFar all n (lines rest) es → FaultyOnes 1 all es
 all-told all rest n es e so =
     subst (FaultyOnes 1 all) (append-nil es) (so [] (subst (λ (r : List ℕ). FaultyOnes n (lines r) []) (sym e) none))
+
+-- the faulty lines of a text are determined
+
+accepted-faulty : (l : List ℕ) (m : Meaning) (f : LineFault) → Judged l (accepted m) → Judged l (faulty f) → ⊥
+accepted-faulty l m f j k = not-faulty l m (f .cause) (f .field) j k
+
+faulty-is : (f g : LineFault) → faulty f ≡ faulty g → f ≡ g
+faulty-is f g e = cc
+
+same-line : (n : ℕ) (f g : LineFault) (es fs : List FaultyLine) → f ≡ g → es ≡ fs → _≡_ {A = List FaultyLine} (record { line = n; fault = f } ∷ es) (record { line = n; fault = g } ∷ fs)
+same-line n f g es fs p q = cc
+
+pub same-ones : {n : ℕ} {ls : List (List ℕ)} {es fs : List FaultyLine} → FaultyOnes n ls es → FaultyOnes n ls fs → es ≡ fs
+same-ones none none = refl
+same-ones (passed m j t) (passed p k u) = same-ones t u
+same-ones (passed m j t) (told f k u) = absurd (accepted-faulty _ m f j k)
+same-ones (told f j t) (passed m k u) = absurd (accepted-faulty _ m f k j)
+same-ones (told f j t) (told g k u) = same-line _ f g _ _ (faulty-is f g (one-verdict _ (faulty f) (faulty g) j k)) (same-ones t u)

@@ -1,8 +1,8 @@
 -- The leftmost field that is out of form. Assumes nothing.
-use mathlib.Core.Path.{_≡_, refl, sym, ap, subst, _∙_}
+use mathlib.Core.Path.{_≡_, refl, sym, ap, subst}
 use mathlib.Core.List.{List, [], _∷_}
-use mathlib.Core.Logic.{_⊎_, inl, inr}
-use Prim.Native.Nat.{ℕ, _+_}
+use mathlib.Core.Logic.{inl, inr}
+use Prim.Native.Nat.{ℕ}
 use Rattle.script.specs.Format.{Form, Good, FirstBad}
 use Rattle.script.specs.Parts.{BadAt, Misfit}
 use Rattle.script.specs.declared.faults.Cause.the-variants.{BadField}

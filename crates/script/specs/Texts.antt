@@ -2,9 +2,11 @@
 use mathlib.Core.Path.{_≡_}
 use mathlib.Core.List.{List, [], _∷_, _++_}
 use mathlib.Core.Bool.{cond}
-use Prim.Native.Nat.{ℕ, _+_, _<_}
+use Prim.Native.Nat.{ℕ, _+_, _<_, _≤_}
 use lib.Dec.{eqb}
 use lib.ListN.{length}
+use Rattle.bounded.specs.Entries.{Refilled, Stays}
+use Rattle.bounded.specs.declared.Bounded.{Bounded}
 use Rattle.script.specs.Format.{Meaning}
 use Rattle.script.specs.Verdicts.{Judged, accepted, faulty}
 use Rattle.script.specs.declared.faults.FaultyLine.{FaultyLine}
@@ -31,3 +33,17 @@ pub record StartsWith (bytes line rest : List ℕ) : Type 0 where
   pub cut : lines bytes ≡ line ∷ lines rest
   pub whole : bytes ≡ line ++ rest
   pub some : 0 < length line
+
+-- These are the faulty lines of the text and no others, so many, and the list has them as far as its places go.
+pub record The-List-Is-Exactly-The-Faulty-Lines (bytes : List ℕ) (before : Bounded FaultyLine) (n : ℕ) (after : Bounded FaultyLine) : Type 0 where
+  pub within : length bytes ≤ 65536
+  pub all : List FaultyLine
+  pub faulty : FaultyOnes 1 (lines bytes) all
+  pub alone : (es : List FaultyLine) → FaultyOnes 1 (lines bytes) es → es ≡ all
+  pub count : n ≡ length all
+  pub listed : Refilled before all after
+
+-- The text is too long, and the list is as it was.
+pub record Refused-Untouched (bytes : List ℕ) (before after : Bounded FaultyLine) : Type 0 where
+  pub beyond : 65536 < length bytes
+  pub untouched : Stays before after

@@ -1,14 +1,10 @@
-ghost use mathlib.Core.List.{List};
 ghost use mathlib.Core.Path.{_≡_};
-ghost use Prim.Native.Nat.{_<_, _≤_};
-ghost use lib.ListN.{length};
 ghost use denote.Ref.{name};
 ghost use Rattle.std.specs.Options.{Cases as BySome};
 ghost use Rattle.std.specs.Results.{Cases};
-ghost use Rattle.bounded.specs.Entries.{Stays, Refilled};
 ghost use Rattle.script.specs.Format.{Meaning};
 ghost use Rattle.script.specs.Numbers.{textNumber};
-ghost use Rattle.script.specs.Texts.{lines, FaultyOnes};
+ghost use Rattle.script.specs.Texts.{The-List-Is-Exactly-The-Faulty-Lines, Refused-Untouched};
 ghost use Rattle.script.specs.Verdicts.{Judged, accepted, faulty};
 use crate::faults::FaultyLine;
 use crate::lines::first_line;
@@ -16,7 +12,7 @@ use crate::reading::read;
 use bounded::Bounded;
 
 /// Why a text is not checked.
-#[derive(Clone, Copy, PartialEq, Eq, Debug)]
+#[derive(Clone, Copy)]
 pub enum TextRefusal {
     /// It has more than 65,536 bytes.
     TooLong = 7,
@@ -51,7 +47,7 @@ fn faulty_line(number: u32, line: &[u8]) -> Option<FaultyLine>
 /// The list starts empty; a short one holds the first of them.
 pub fn check(text: &[u8], faults: &mut Bounded<'_, FaultyLine>) -> Result<usize, TextRefusal>
     ensures lender { λ _. ⌜ name (now (faults .exit) .places) ≡ name (now (faults .entry) .places) ⌝ }
-    ensures cases { λ r. ⌜ Cases r (λ n. (length (now (text .entry)) ≤ 65536) × ((es : List FaultyLine) × FaultyOnes 1 (lines (now (text .entry))) es × (n ≡ length es) × Refilled (now (faults .entry)) es (now (faults .exit)))) (λ _. (65536 < length (now (text .entry))) × Stays (now (faults .entry)) (now (faults .exit))) ⌝ }
+    ensures cases { λ r. ⌜ Cases r (λ n. The-List-Is-Exactly-The-Faulty-Lines (now (text .entry)) (now (faults .entry)) n (now (faults .exit))) (λ _. Refused-Untouched (now (text .entry)) (now (faults .entry)) (now (faults .exit))) ⌝ }
 {
     if text.len() > TEXT_MAX {
         return Err(TextRefusal::TooLong);

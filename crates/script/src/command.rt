@@ -1,8 +1,6 @@
-ghost use mathlib.Core.Path.{_≡_};
-
 /// A command word.
 #[derive(Clone, Copy)]
-pub enum Word {
+pub(crate) enum Word {
     Hall,
     PumpType,
     Add,

@@ -1,6 +1,4 @@
 ghost use mathlib.Core.List.{[], _∷_};
-ghost use mathlib.Core.Path.{_≡_};
-ghost use denote.Ref.{name};
 ghost use Rattle.std.specs.Written.{decimal};
 ghost use Rattle.script.specs.Drafts.{Wrote};
 ghost use Rattle.script.specs.Format.{mask, shown, marks, meaning, fields, commas, line};
@@ -10,15 +8,13 @@ use bounded::Bounded;
 use bounded::Full;
 
 fn put(draft: &mut Bounded<'_, u8>, b: u8) -> Result<(), Full>
-    ensures lender { λ _. ⌜ name (now (draft .exit) .places) ≡ name (now (draft .entry) .places) ⌝ }
-    ensures wrote { λ r. ⌜ Wrote (now (draft .entry)) (b ∷ []) (now (draft .exit)) r ⌝ }
+    ensures { λ r. ⌜ Wrote (now (draft .entry)) (b ∷ []) (now (draft .exit)) r ⌝ }
 {
     draft.push(b)
 }
 
 fn put_all(draft: &mut Bounded<'_, u8>, bytes: &[u8]) -> Result<(), Full>
-    ensures lender { λ _. ⌜ name (now (draft .exit) .places) ≡ name (now (draft .entry) .places) ⌝ }
-    ensures wrote { λ r. ⌜ Wrote (now (draft .entry)) (now (bytes .entry)) (now (draft .exit)) r ⌝ }
+    ensures { λ r. ⌜ Wrote (now (draft .entry)) (now (bytes .entry)) (now (draft .exit)) r ⌝ }
 {
     for b in bytes {
         put(draft, *b)?;
@@ -27,8 +23,7 @@ fn put_all(draft: &mut Bounded<'_, u8>, bytes: &[u8]) -> Result<(), Full>
 }
 
 fn put_number(draft: &mut Bounded<'_, u8>, n: u16) -> Result<(), Full>
-    ensures lender { λ _. ⌜ name (now (draft .exit) .places) ≡ name (now (draft .entry) .places) ⌝ }
-    ensures wrote { λ r. ⌜ Wrote (now (draft .entry)) (decimal n) (now (draft .exit)) r ⌝ }
+    ensures { λ r. ⌜ Wrote (now (draft .entry)) (decimal n) (now (draft .exit)) r ⌝ }
 {
     if n >= 10 {
         put_number(draft, n / 10)?;
@@ -37,11 +32,10 @@ fn put_number(draft: &mut Bounded<'_, u8>, n: u16) -> Result<(), Full>
 }
 
 fn put_mask(draft: &mut Bounded<'_, u8>, m: Mask) -> Result<(), Full>
-    ensures lender { λ _. ⌜ name (now (draft .exit) .places) ≡ name (now (draft .entry) .places) ⌝ }
-    ensures wrote { λ r. ⌜ Wrote (now (draft .entry)) (shown mask (marks (m .rigs) (m .set))) (now (draft .exit)) r ⌝ }
+    ensures { λ r. ⌜ Wrote (now (draft .entry)) (shown mask (marks (m .rigs) (m .set))) (now (draft .exit)) r ⌝ }
 {
     let mut left = m.set;
-    for r in 0..m.rigs {
+    for _ in 0..m.rigs {
         put(draft, b'0' + (left % 2) as u8)?;
         left /= 2;
     }
@@ -50,8 +44,7 @@ fn put_mask(draft: &mut Bounded<'_, u8>, m: Mask) -> Result<(), Full>
 
 // A number after its comma.
 fn put_one(draft: &mut Bounded<'_, u8>, n: u16) -> Result<(), Full>
-    ensures lender { λ _. ⌜ name (now (draft .exit) .places) ≡ name (now (draft .entry) .places) ⌝ }
-    ensures wrote { λ r. ⌜ Wrote (now (draft .entry)) (commas (decimal n ∷ [])) (now (draft .exit)) r ⌝ }
+    ensures { λ r. ⌜ Wrote (now (draft .entry)) (commas (decimal n ∷ [])) (now (draft .exit)) r ⌝ }
 {
     put(draft, b',')?;
     put_number(draft, n)
@@ -59,8 +52,7 @@ fn put_one(draft: &mut Bounded<'_, u8>, n: u16) -> Result<(), Full>
 
 // Two numbers, each after its comma.
 fn put_two(draft: &mut Bounded<'_, u8>, m: u16, n: u16) -> Result<(), Full>
-    ensures lender { λ _. ⌜ name (now (draft .exit) .places) ≡ name (now (draft .entry) .places) ⌝ }
-    ensures wrote { λ r. ⌜ Wrote (now (draft .entry)) (commas (decimal m ∷ decimal n ∷ [])) (now (draft .exit)) r ⌝ }
+    ensures { λ r. ⌜ Wrote (now (draft .entry)) (commas (decimal m ∷ decimal n ∷ [])) (now (draft .exit)) r ⌝ }
 {
     put_one(draft, m)?;
     put_one(draft, n)
@@ -68,8 +60,7 @@ fn put_two(draft: &mut Bounded<'_, u8>, m: u16, n: u16) -> Result<(), Full>
 
 // The fields of a command, each after its comma.
 fn put_fields(draft: &mut Bounded<'_, u8>, command: Command<'_>) -> Result<(), Full>
-    ensures lender { λ _. ⌜ name (now (draft .exit) .places) ≡ name (now (draft .entry) .places) ⌝ }
-    ensures wrote { λ r. ⌜ Wrote (now (draft .entry)) (commas (fields (meaning (command .entry)))) (now (draft .exit)) r ⌝ }
+    ensures { λ r. ⌜ Wrote (now (draft .entry)) (commas (fields (meaning (command .entry)))) (now (draft .exit)) r ⌝ }
 {
     match command {
         Command::Hall { rigs, types } => put_two(draft, rigs, types),
@@ -91,9 +82,8 @@ fn put_fields(draft: &mut Bounded<'_, u8>, command: Command<'_>) -> Result<(), F
 }
 
 // The command's line, end byte included.
-pub fn put_line(draft: &mut Bounded<'_, u8>, command: Command<'_>) -> Result<(), Full>
-    ensures lender { λ _. ⌜ name (now (draft .exit) .places) ≡ name (now (draft .entry) .places) ⌝ }
-    ensures wrote { λ r. ⌜ Wrote (now (draft .entry)) (line (meaning (command .entry))) (now (draft .exit)) r ⌝ }
+pub(crate) fn put_line(draft: &mut Bounded<'_, u8>, command: Command<'_>) -> Result<(), Full>
+    ensures { λ r. ⌜ Wrote (now (draft .entry)) (line (meaning (command .entry))) (now (draft .exit)) r ⌝ }
 {
     put_all(draft, command.word().name())?;
     put_fields(draft, command)?;

@@ -2,7 +2,7 @@ ghost use mathlib.Core.Path.{_≡_};
 ghost use Rattle.script.specs.Numbers.{causeNumber};
 
 /// Why a line is faulty. The value is the number by which the refusal is told.
-#[derive(Clone, Copy, PartialEq, Eq, Debug)]
+#[derive(Clone, Copy)]
 pub enum Cause {
     /// Over 80 bytes before the end byte, no end byte, or another byte outside 32 to 126.
     Malformed = 8,
@@ -24,7 +24,7 @@ impl Cause {
 }
 
 /// What is wrong with a line. The command word is field 1; 0 stands for the line as a whole.
-#[derive(Clone, Copy, PartialEq, Eq, Debug)]
+#[derive(Clone, Copy)]
 pub struct LineFault {
     pub cause: Cause,
     pub field: u8,
@@ -48,7 +48,7 @@ impl LineFault {
 }
 
 /// A faulty line of a text, by its number from 1.
-#[derive(Clone, Copy, PartialEq, Eq, Debug)]
+#[derive(Clone, Copy)]
 pub struct FaultyLine {
     pub line: u32,
     pub fault: LineFault,

@@ -7,15 +7,24 @@ ghost use Rattle.std.specs.Options.{Cases as BySome};
 ghost use Rattle.std.specs.Results.{Cases};
 ghost use Rattle.std.specs.Written.{decimal};
 ghost use Rattle.std.specs.shelf.Lists.{countBy};
-ghost use Rattle.script.specs.Format.{Form, number, count, mask, Good, Fit, shown, marks, Commaless};
+ghost use Rattle.script.specs.Format.{Form, number, count, mask, Good, shown, marks, Commaless};
 ghost use Rattle.script.specs.Parts.{Ends, after, BadAt, Misfit};
 ghost use Rattle.script.specs.declared.faults.Cause.the-variants.{BadField};
 use crate::command::Mask;
 use crate::faults::Cause;
 use crate::faults::LineFault;
 
+/// The greatest count.
+const COUNT_MAX: u16 = 4096;
+
+/// The most characters that a mask has.
+const MASK_MAX: usize = 64;
+
+/// The most digits that a number has, as 65,535.
+const DIGITS_MAX: usize = 5;
+
 /// What one field holds.
-pub trait FieldValue: Sized {
+pub(crate) trait FieldValue: Sized {
     ghost form: { Form };
 
     // The bytes are how the value is written, and the value is in range.
@@ -30,11 +39,11 @@ pub trait FieldValue: Sized {
 
 /// A number from 0 to 65,535.
 #[derive(Clone, Copy)]
-pub struct Number(pub u16);
+pub(crate) struct Number(pub(crate) u16);
 
 /// A number from 1 to 4,096.
 #[derive(Clone, Copy)]
-pub struct Count(pub u16);
+pub(crate) struct Count(pub(crate) u16);
 
 pub impl FieldValue for Number as NumberField {
     ghost form = { number };
@@ -45,7 +54,7 @@ pub impl FieldValue for Number as NumberField {
         if let [b'0', _, ..] = field {
             return None;
         }
-        if field.is_empty() || field.len() > 5 {
+        if field.is_empty() || field.len() > DIGITS_MAX {
             return None;
         }
         let mut n: u32 = 0;
@@ -70,7 +79,7 @@ pub impl FieldValue for Count as CountField {
 
     fn parse(field: &[u8]) -> Option<Count> {
         let n = NumberField::parse(field)?.0;
-        if n >= 1 && n <= 4096 {
+        if n >= 1 && n <= COUNT_MAX {
             Some(Count(n))
         } else {
             None
@@ -84,7 +93,7 @@ pub impl FieldValue for Mask as MaskField {
     ghost reads = { λ f m. (1 ≤ m .rigs) × (m .rigs ≤ 64) × (m .set < 2 ^ m .rigs) × (f ≡ shown mask (marks (m .rigs) (m .set))) };
 
     fn parse(field: &[u8]) -> Option<Mask> {
-        if field.is_empty() || field.len() > 64 {
+        if field.is_empty() || field.len() > MASK_MAX {
             return None;
         }
         let mut set: u64 = 0;
@@ -117,7 +126,7 @@ fn comma_at(bytes: &[u8]) -> usize
 }
 
 // How many fields follow, each after its comma.
-pub fn count_commas(bytes: &[u8]) -> usize
+pub(crate) fn count_commas(bytes: &[u8]) -> usize
     ensures { λ r. ⌜ r ≡ countBy (λ b. eqb b 44) (now (bytes .entry)) ⌝ }
 {
     let mut n = 0;
@@ -130,7 +139,7 @@ pub fn count_commas(bytes: &[u8]) -> usize
 }
 
 // The field after the comma that `rest` begins with, and what follows it.
-pub fn next_field(rest: &[u8]) -> (&[u8], &[u8])
+pub(crate) fn next_field(rest: &[u8]) -> (&[u8], &[u8])
     requires { ⌜ 0 < length (after (now rest)) ⌝ }
     ensures parts { λ r. ⌜ after (now (rest .entry)) ≡ now (r .0) ∷ after (now (r .1)) ⌝ }
     ensures ends { λ r. ⌜ Ends (now (r .1)) ⌝ }
@@ -158,7 +167,7 @@ fn field_at<V: FieldValue>(rest: &[u8], k: u8) -> Result<(V, &[u8]), LineFault>
 }
 
 // The one field that follows the word.
-pub fn one_field<V: FieldValue>(rest: &[u8]) -> Result<V, LineFault>
+pub(crate) fn one_field<V: FieldValue>(rest: &[u8]) -> Result<V, LineFault>
     requires { ⌜ length (after (now rest)) ≡ 1 ⌝ }
     ensures { λ r. ⌜ Cases r (λ x. (f : List ℕ) × V·FieldValue .reads f x × (after (now (rest .entry)) ≡ f ∷ [])) (λ e. Misfit (V·FieldValue .form ∷ []) (after (now (rest .entry))) e) ⌝ }
 {
@@ -167,7 +176,9 @@ pub fn one_field<V: FieldValue>(rest: &[u8]) -> Result<V, LineFault>
 }
 
 // The two fields that follow the word.
-pub fn two_fields<V: FieldValue + Drop, W: FieldValue>(rest: &[u8]) -> Result<(V, W), LineFault>
+pub(crate) fn two_fields<V: FieldValue + Drop, W: FieldValue>(
+    rest: &[u8],
+) -> Result<(V, W), LineFault>
     requires { ⌜ length (after (now rest)) ≡ 2 ⌝ }
     ensures { λ r. ⌜ Cases r (λ x. (f g : List ℕ) × V·FieldValue .reads f (x .0) × W·FieldValue .reads g (x .1) × (after (now (rest .entry)) ≡ f ∷ g ∷ [])) (λ e. Misfit (V·FieldValue .form ∷ W·FieldValue .form ∷ []) (after (now (rest .entry))) e) ⌝ }
 {

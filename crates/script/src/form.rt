@@ -6,10 +6,10 @@ ghost use Rattle.std.specs.Vec.{Every};
 ghost use Rattle.script.specs.Format.{Printable, WellFormed};
 
 /// The most bytes that a line may have before its end byte.
-pub const LINE_MAX: usize = 80;
+pub(crate) const LINE_MAX: usize = 80;
 
 /// The most bytes that a well-formed line has, its end byte among them.
-pub const LINE_BYTES: usize = 81;
+pub const LINE_BYTES: usize = LINE_MAX + 1;
 
 fn is_printable(bytes: &[u8]) -> bool
     ensures { λ r. ⌜ When r (Every Printable (now (bytes .entry))) (Every Printable (now (bytes .entry)) → ⊥) ⌝ }
@@ -22,8 +22,8 @@ fn is_printable(bytes: &[u8]) -> bool
     true
 }
 
-// The bytes before the end byte, if the line is in form.
-pub fn front_of(line: &[u8]) -> Option<&[u8]>
+// The bytes before the end byte, if the line is well formed.
+pub(crate) fn front_of(line: &[u8]) -> Option<&[u8]>
     ensures { λ r. ⌜ BySome r ((bytes : List ℕ) → WellFormed (now (line .entry)) bytes → ⊥) (λ x. WellFormed (now (line .entry)) (now x)) ⌝ }
 {
     let [front @ .., b'\n'] = line else {

@@ -10,7 +10,6 @@ ghost use Rattle.script.specs.Parts.{parts, Ends, after, Says, Misfit};
 ghost use Rattle.script.specs.Verdicts.{Judged, verdict, Tidy};
 ghost use Rattle.script.specs.Verdicts.{The-Line-Has-No-Other-Verdict, An-Accepted-Line-Is-The-Only-Line-Of-Its-Command};
 use crate::command::Command;
-use crate::command::Mask;
 use crate::command::Word;
 use crate::faults::LineFault;
 use crate::fields::Count;
@@ -43,36 +42,30 @@ fn read_fields<'a>(word: Word, rest: &'a [u8]) -> Result<Command<'a>, LineFault>
 {
     match word {
         Word::Hall => {
-            let (rigs, types) = two_fields::<Number, Number>(rest)?;
-            Ok(Command::Hall {
-                rigs: rigs.0,
-                types: types.0,
-            })
+            let (Number(rigs), Number(types)) = two_fields(rest)?;
+            Ok(Command::Hall { rigs, types })
         }
-        Word::PumpType => Ok(Command::PumpType(one_field::<Mask>(rest)?)),
+        Word::PumpType => Ok(Command::PumpType(one_field(rest)?)),
         Word::Add => {
-            let (kind, count) = two_fields::<Number, Count>(rest)?;
-            Ok(Command::Add {
-                kind: kind.0,
-                count: count.0,
-            })
+            let (Number(kind), Count(count)) = two_fields(rest)?;
+            Ok(Command::Add { kind, count })
         }
         Word::Withdraw => {
-            let (kind, count) = two_fields::<Number, Count>(rest)?;
-            Ok(Command::Withdraw {
-                kind: kind.0,
-                count: count.0,
-            })
+            let (Number(kind), Count(count)) = two_fields(rest)?;
+            Ok(Command::Withdraw { kind, count })
         }
-        Word::Take => Ok(Command::Take {
-            rig: one_field::<Number>(rest)?.0,
-        }),
-        Word::Shut => Ok(Command::Shut {
-            rig: one_field::<Number>(rest)?.0,
-        }),
-        Word::Open => Ok(Command::Open {
-            rig: one_field::<Number>(rest)?.0,
-        }),
+        Word::Take => {
+            let Number(rig) = one_field(rest)?;
+            Ok(Command::Take { rig })
+        }
+        Word::Shut => {
+            let Number(rig) = one_field(rest)?;
+            Ok(Command::Shut { rig })
+        }
+        Word::Open => {
+            let Number(rig) = one_field(rest)?;
+            Ok(Command::Open { rig })
+        }
         Word::Report => Ok(Command::Report),
         Word::Note => {
             let (text, _) = next_field(rest);

@@ -9,7 +9,7 @@ use crate::command::Word;
 
 impl Word {
     // The word as it is written.
-    pub fn name(self) -> &'static [u8]
+    pub(crate) fn name(self) -> &'static [u8]
         ensures { λ r. ⌜ now r ≡ name self ⌝ }
     {
         match self {
@@ -26,7 +26,7 @@ impl Word {
     }
 
     // How many fields follow the word.
-    pub fn arity(self) -> usize
+    pub(crate) fn arity(self) -> usize
         ensures { λ r. ⌜ r ≡ length (shape self) ⌝ }
     {
         match self {
@@ -39,7 +39,7 @@ impl Word {
 
 impl Command<'_> {
     // The word that the command's line begins with.
-    pub fn word(self) -> Word
+    pub(crate) fn word(self) -> Word
         ensures { λ r. ⌜ r ≡ meaning (self .entry) .0 ⌝ }
     {
         match self {
@@ -57,7 +57,7 @@ impl Command<'_> {
 }
 
 // The word that these bytes begin with, and what follows it.
-pub fn split_word(bytes: &[u8]) -> Option<(Word, &[u8])>
+pub(crate) fn split_word(bytes: &[u8]) -> Option<(Word, &[u8])>
     ensures { λ r. ⌜ BySome r ((w : Word) (rest : List ℕ) → now (bytes .entry) ≡ name w ++ rest → ⊥) (λ x. now (bytes .entry) ≡ name (x .0) ++ now (x .1)) ⌝ }
 {
     match bytes {

@@ -12,7 +12,7 @@ use crate::reading::read;
 use bounded::Bounded;
 
 /// Why a command is not written.
-#[derive(Clone, Copy, PartialEq, Eq, Debug)]
+#[derive(Clone, Copy)]
 pub enum WriteRefusal {
     /// Its line would have over 80 bytes before its end byte, or a byte outside 32 to 126.
     Malformed = 8,

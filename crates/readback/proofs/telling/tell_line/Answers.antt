@@ -1,5 +1,3 @@
-use mathlib.Core.Path.{refl}
-use Prim.Native.Nat.{_≤_}
 use native.Mathlib.Omega.{arith}
 use Rattle.script.specs.Format.{meaning}
 use Rattle.script.proofs.ReadBack.{accepted-writes}

@@ -1,6 +1,6 @@
-use mathlib.Core.Path.{_≡_, refl, sym, ap, subst, _∙_}
-use mathlib.Core.List.{List, [], _∷_, _++_}
-use Prim.Native.Nat.{ℕ, _+_, _<_, _≤_}
+use mathlib.Core.Path.{refl, sym, ap, subst, _∙_}
+use mathlib.Core.List.{[], _∷_, _++_}
+use Prim.Native.Nat.{_+_, _<_, _≤_}
 use native.Mathlib.Omega.{arith}
 use lib.ListN.{length}
 use Rattle.std.proofs.shelf.Lists.{length-append, length-push}
@@ -9,7 +9,7 @@ use Rattle.bounded.specs.Entries.{Refilled}
 use Rattle.bounded.specs.declared.Bounded.{Bounded}
 use Rattle.script.specs.Texts.{lines}
 use Rattle.script.specs.declared.faults.FaultyLine.{FaultyLine}
-use Rattle.script.proofs.Lining.{one-passed, one-told, all-told}
+use Rattle.script.proofs.Lining.{one-passed, one-told, all-told, same-ones}
 use Rattle.script.proofs.checking.check.Needs as need
 use Rattle.script.proofs.checking.check.Needs.{in-Some-faulty-line, in-rest-faulty-line}
 
@@ -60,15 +60,15 @@ loop-line-again c =
 pub returns : need.returns
 returns c =
     let i = c .loop-line .inv in
+    let t = all-told (lines (c .args .text .now)) (c .loop-line .rest .now) (c .loop-line .number) (i .3 .0) (c .in-rest .ensures tt) (i .3 .3) in
     record {
       lender = i .0 ∙ c .clear .ensures .lender;
-      cases = (
-        c .if-text-gt-TEXT-MAX .left,
-        (
-          i .3 .0,
-          all-told (lines (c .args .text .now)) (c .loop-line .rest .now) (c .loop-line .number) (i .3 .0) (c .in-rest .ensures tt) (i .3 .3),
-          i .3 .1,
-          refilled-from (c .args .faults .now) (c .clear .last .self) (c .loop-line .faults) (i .3 .0) (c .clear .ensures .untouched) (i .3 .2),
-        ),
-      );
+      cases = record {
+        within = c .if-text-gt-TEXT-MAX .left;
+        all = i .3 .0;
+        faulty = t;
+        alone = λ es u. same-ones u t;
+        count = i .3 .1;
+        listed = refilled-from (c .args .faults .now) (c .clear .last .self) (c .loop-line .faults) (i .3 .0) (c .clear .ensures .untouched) (i .3 .2);
+      };
     }

@@ -15,35 +15,29 @@ next done n r set all h e =
     e ∙ ap (λ (xs : List ℕ). done ++ xs) (marks-next (n - r) set (omega arith) ∙ ap (λ (j : ℕ). (48 + set % 2) ∷ shown mask (marks j (set / 2))) m)
     ∙ sym (append-assoc done ((48 + set % 2) ∷ []) (shown mask (marks (n - (r + 1)) (set / 2))))
 
-pub loop-r-holds : need.loop-r-holds
-loop-r-holds c =
+pub loop-holds : need.loop-holds
+loop-holds c =
     let n : c .args .m .rigs ≡ c .args .m .rigs - 0 = omega arith in
-    (refl, ([], extends-none (c .args .draft .now), ap (λ (k : ℕ). shown mask (marks k (c .args .m .set))) n))
+    ([], extends-none (c .args .draft .now), ap (λ (k : ℕ). shown mask (marks k (c .args .m .set))) n)
 
 pub returns-in-Break-put : need.returns-in-Break-put
 returns-in-Break-put c =
-    let i = c .loop-r .inv in
-    let all = next (i .1 .0) (c .args .m .rigs) (c .loop-r .r) (c .loop-r .left) _ (c .loop-r-test .taken) (i .1 .2) in
-    let over = overflows-then (c .args .draft .now) (c .loop-r .draft) (c .loop-r .draft) (i .1 .0) ((48 + c .loop-r .left % 2) ∷ []) _ refl (i .1 .1) (c .in-Break-put .ensures tt .wrote) in
-    record {
-      lender = c .put .ensures .lender ∙ i .0;
-      wrote = wrote-none _ _ _ _ (c .from-residual .ensures .0) (overflows-front (c .args .draft .now) _ _ _ all over);
-    }
+    let i = c .loop .inv in
+    let all = next (i .0) (c .args .m .rigs) (c .loop .counter) (c .loop .left) _ (c .loop-test .taken) (i .2) in
+    let over = overflows-then (c .args .draft .now) (c .loop .draft) (c .loop .draft) (i .0) ((48 + c .loop .left % 2) ∷ []) _ refl (i .1) (c .in-Break-put .ensures tt) in
+    wrote-none _ _ _ _ (c .from-residual .ensures .0) (overflows-front (c .args .draft .now) _ _ _ all over)
 
-pub loop-r-again : need.loop-r-again
-loop-r-again c =
-    let i = c .loop-r .inv in (
-      c .put .ensures .lender ∙ i .0,
-      (
-        i .1 .0 ++ (48 + c .loop-r .left % 2) ∷ [],
-        extends-then _ _ _ (i .1 .0) ((48 + c .loop-r .left % 2) ∷ []) _ refl (i .1 .1) (c .in-Continue-put .ensures tt .wrote),
-        next (i .1 .0) (c .args .m .rigs) (c .loop-r .r) (c .loop-r .left) _ (c .loop-r-test .taken) (i .1 .2),
-      ),
+pub loop-again : need.loop-again
+loop-again c =
+    let i = c .loop .inv in (
+      i .0 ++ (48 + c .loop .left % 2) ∷ [],
+      extends-then _ _ _ (i .0) ((48 + c .loop .left % 2) ∷ []) _ refl (i .1) (c .in-Continue-put .ensures tt),
+      next (i .0) (c .args .m .rigs) (c .loop .counter) (c .loop .left) _ (c .loop-test .taken) (i .2),
     )
 
 pub returns : need.returns
 returns c =
-    let i = c .loop-r .inv in
-    let z : c .args .m .rigs - c .loop-r .r ≡ 0 = omega arith in
-    let all : shown mask (marks (c .args .m .rigs) (c .args .m .set)) ≡ i .1 .0 = i .1 .2 ∙ ap (λ (k : ℕ). i .1 .0 ++ shown mask (marks k (c .loop-r .left))) z ∙ append-nil (i .1 .0) in
-    record { lender = i .0; wrote = subst (λ (xs : List ℕ). Extends (c .args .draft .now) xs (c .loop-r .draft)) (sym all) (i .1 .1) }
+    let i = c .loop .inv in
+    let z : c .args .m .rigs - c .loop .counter ≡ 0 = omega arith in
+    let all : shown mask (marks (c .args .m .rigs) (c .args .m .set)) ≡ i .0 = i .2 ∙ ap (λ (k : ℕ). i .0 ++ shown mask (marks k (c .loop .left))) z ∙ append-nil (i .0) in
+    subst (λ (xs : List ℕ). Extends (c .args .draft .now) xs (c .loop .draft)) (sym all) (i .1)

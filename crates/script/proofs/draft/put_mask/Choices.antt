@@ -5,8 +5,7 @@ use Rattle.script.specs.Drafts.{Extends}
 use Rattle.script.specs.Format.{mask, shown, marks}
 use Rattle.script.proofs.draft.put_mask.Given as given
 
-abbrev pub Inv-loop-r : given.InvT-loop-r
-Inv-loop-r l =
-    (l .draft .places .name ≡ l .entry .draft .places .name)
-    × ((done : List ℕ) × Extends (l .entry .draft) done (l .draft)
-    × (shown mask (marks (l .r-end) (l .entry .left)) ≡ done ++ shown mask (marks (l .r-end - l .r) (l .left))))
+abbrev pub Inv-loop : given.InvT-loop
+Inv-loop l =
+    (done : List ℕ) × Extends (l .entry .draft) done (l .draft)
+    × (shown mask (marks (l .end) (l .entry .left)) ≡ done ++ shown mask (marks (l .end - l .counter) (l .left)))

@@ -1,4 +1,4 @@
-use mathlib.Core.Path.{ap, sym, _∙_}
+use mathlib.Core.Path.{ap}
 use mathlib.Core.List.{List, _∷_}
 use Prim.Native.Nat.{ℕ}
 use Rattle.std.proofs.shelf.Lists.{append-nil}
@@ -7,7 +7,4 @@ use Rattle.script.proofs.draft.put_one.Needs as need
 
 pub returns : need.returns
 returns c =
-    record {
-      lender = c .put-number .ensures .lender ∙ c .put .ensures .lender;
-      wrote = wrote-then _ _ _ _ _ _ (ap (λ (xs : List ℕ). 44 ∷ xs) (append-nil _)) (c .in-Continue-put .ensures tt .wrote) (c .put-number .result) (c .put-number .ensures .wrote);
-    }
+    wrote-then _ _ _ _ _ _ (ap (λ (xs : List ℕ). 44 ∷ xs) (append-nil _)) (c .in-Continue-put .ensures tt) (c .put-number .result) (c .put-number .ensures)

@@ -34,4 +34,4 @@ returns c =
     let s : 1 ≤ length (c .args .field .now) = search needs in
     let z : c .loop-r .r ≡ 0 = omega arith in
     let t = tail-all (c .args .field .now) (c .loop-r .set) (subst (λ (r : ℕ). Tail (c .args .field .now) r (c .loop-r .set)) z (c .loop-r .inv)) in
-    (s, c .if-field-gt64 .left, t .0, t .1)
+    (s, c .if-field-gt-MASK-MAX .left, t .0, t .1)

@@ -1,10 +1,8 @@
-use mathlib.Core.Path.{_≡_, refl, sym, ap, subst, _∙_}
-use mathlib.Core.List.{List, [], _∷_, _++_}
-use Prim.Native.Nat.{ℕ, _+_, _-_, _<_, _≤_}
+use mathlib.Core.Path.{_≡_, sym, ap, subst, _∙_}
+use Prim.Native.Nat.{_-_, _<_, _≤_}
 use borrow.Author.Needs.{needs}
 use native.Mathlib.Omega.{arith}
 use lib.ListN.{length, getD, take}
-use Rattle.std.specs.Vec.{Every}
 use Rattle.std.specs.Reads.{Digits, value}
 use Rattle.std.specs.Written.{decimal}
 use Rattle.std.specs.Text.{digitValue}
@@ -55,7 +53,7 @@ returns-then-n-le65535 c =
     let v : c .loop-b .n ≡ value 10 (c .args .field .now) = c .loop-b .inv .0 ∙ ap (value 10) t in
     let s : 0 < length (c .args .field .now) = search needs in
     let z : getD (c .args .field .now) 0 0 ≡ 48 → length (c .args .field .now) ≡ 1 = λ e. search needs in
-    (c .if-n-le65535 .taken, numeral-of (c .args .field .now) d s (c .if-field-gt5 .left) z ∙ ap decimal (sym v))
+    (c .if-n-le65535 .taken, numeral-of (c .args .field .now) d s (c .if-field-gt-DIGITS-MAX .left) z ∙ ap decimal (sym v))
 
 pub returns-else-n-le65535 : need.returns-else-n-le65535
 returns-else-n-le65535 c g =

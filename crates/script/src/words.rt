@@ -1,9 +1,10 @@
-ghost use mathlib.Core.List.{List, _++_};
+ghost use mathlib.Core.List.{_++_};
 ghost use mathlib.Core.Path.{_≡_};
-ghost use Prim.Native.Nat.{ℕ};
 ghost use lib.ListN.{length};
 ghost use Rattle.std.specs.Options.{Cases as BySome};
 ghost use Rattle.script.specs.Format.{name, shape, meaning};
+ghost use Rattle.script.specs.Parts.{NotBegun};
+ghost use Rattle.script.specs.declared.command.Word.the-variants.{Hall, PumpType, Add, Withdraw, Take, Shut, Open, Report, Note};
 use crate::command::Command;
 use crate::command::Word;
 
@@ -58,18 +59,49 @@ impl Command<'_> {
 
 // The word that these bytes begin with, and what follows it.
 pub(crate) fn split_word(bytes: &[u8]) -> Option<(Word, &[u8])>
-    ensures { λ r. ⌜ BySome r ((w : Word) (rest : List ℕ) → now (bytes .entry) ≡ name w ++ rest → ⊥) (λ x. now (bytes .entry) ≡ name (x .0) ++ now (x .1)) ⌝ }
+    ensures { λ r. ⌜ BySome r ((w : Word) → NotBegun w (now (bytes .entry))) (λ x. now (bytes .entry) ≡ name (x .0) ++ now (x .1)) ⌝ }
+{
+    if let Some(found) = hall_word(bytes) {
+        return Some(found);
+    }
+    if let Some(found) = pump_word(bytes) {
+        return Some(found);
+    }
+    rig_word(bytes)
+}
+
+// The same for the words that speak of the hall.
+fn hall_word(bytes: &[u8]) -> Option<(Word, &[u8])>
+    ensures { λ r. ⌜ BySome r (NotBegun Hall (now (bytes .entry)) × NotBegun PumpType (now (bytes .entry)) × NotBegun Report (now (bytes .entry)) × NotBegun Note (now (bytes .entry))) (λ x. now (bytes .entry) ≡ name (x .0) ++ now (x .1)) ⌝ }
 {
     match bytes {
         [b'H', b'A', b'L', b'L', rest @ ..] => Some((Word::Hall, rest)),
         [b'T', b'Y', b'P', b'E', rest @ ..] => Some((Word::PumpType, rest)),
+        [b'R', b'E', b'P', b'O', b'R', b'T', rest @ ..] => Some((Word::Report, rest)),
+        [b'N', b'O', b'T', b'E', rest @ ..] => Some((Word::Note, rest)),
+        _ => None,
+    }
+}
+
+// The same for the words that speak of pumps.
+fn pump_word(bytes: &[u8]) -> Option<(Word, &[u8])>
+    ensures { λ r. ⌜ BySome r (NotBegun Add (now (bytes .entry)) × NotBegun Withdraw (now (bytes .entry))) (λ x. now (bytes .entry) ≡ name (x .0) ++ now (x .1)) ⌝ }
+{
+    match bytes {
         [b'A', b'D', b'D', rest @ ..] => Some((Word::Add, rest)),
         [b'W', b'I', b'T', b'H', b'D', b'R', b'A', b'W', rest @ ..] => Some((Word::Withdraw, rest)),
+        _ => None,
+    }
+}
+
+// The same for the words that speak of a rig.
+fn rig_word(bytes: &[u8]) -> Option<(Word, &[u8])>
+    ensures { λ r. ⌜ BySome r (NotBegun Take (now (bytes .entry)) × NotBegun Shut (now (bytes .entry)) × NotBegun Open (now (bytes .entry))) (λ x. now (bytes .entry) ≡ name (x .0) ++ now (x .1)) ⌝ }
+{
+    match bytes {
         [b'T', b'A', b'K', b'E', rest @ ..] => Some((Word::Take, rest)),
         [b'S', b'H', b'U', b'T', rest @ ..] => Some((Word::Shut, rest)),
         [b'O', b'P', b'E', b'N', rest @ ..] => Some((Word::Open, rest)),
-        [b'R', b'E', b'P', b'O', b'R', b'T', rest @ ..] => Some((Word::Report, rest)),
-        [b'N', b'O', b'T', b'E', rest @ ..] => Some((Word::Note, rest)),
         _ => None,
     }
 }

@@ -1,14 +1,15 @@
 -- What is told of a text: each line by its number, as it was understood, and how many there are.
 use mathlib.Core.Path.{_≡_}
 use mathlib.Core.List.{List, [], _∷_, _++_}
-use Prim.Native.Nat.{ℕ, _+_, _<_, _≤_}
+use Prim.Native.Nat.{ℕ, _+_}
 use lib.Chars.{codes}
 use lib.ListN.{length}
 use Rattle.std.specs.Written.{decimal}
 use Rattle.script.specs.Format.{line}
-use Rattle.script.specs.Numbers.{causeNumber}
-use Rattle.script.specs.Texts.{lines, FaultyOnes}
+use Rattle.script.specs.Numbers.{causeNumber, textNumber}
+use Rattle.script.specs.Texts.{lines, Within, Beyond, FaultyOnes}
 use Rattle.script.specs.Verdicts.{Verdict, accepted, faulty, Judged}
+use Rattle.script.specs.declared.checking.TextRefusal.the-variants.{TooLong}
 use Rattle.script.specs.declared.faults.FaultyLine.{FaultyLine}
 
 -- The line that tells a fault: number of the line, cause and field.
@@ -31,5 +32,5 @@ lastTold n m = codes "LINES," ++ (decimal n ++ (codes ",FAULTS," ++ (decimal m +
 
 -- Of a text within the limit each line is told and then their numbers; of a longer one, only that it is refused.
 pub record Each-Line-Is-Told-As-It-Was-Understood (bytes told : List ℕ) : Type 0 where
-  pub within : length bytes ≤ 65536 → (body : List ℕ) × (es : List FaultyLine) × LinesTold 1 (lines bytes) body × FaultyOnes 1 (lines bytes) es × (told ≡ body ++ lastTold (length (lines bytes)) (length es))
-  pub beyond : 65536 < length bytes → told ≡ faultTold 0 7 0
+  pub within : Within bytes → (body : List ℕ) × (es : List FaultyLine) × LinesTold 1 (lines bytes) body × FaultyOnes 1 (lines bytes) es × (told ≡ body ++ lastTold (length (lines bytes)) (length es))
+  pub beyond : Beyond bytes → told ≡ faultTold 0 (textNumber TooLong) 0

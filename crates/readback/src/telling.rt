@@ -1,12 +1,12 @@
 ghost use mathlib.Core.List.{List, _++_};
 ghost use mathlib.Core.Path.{_≡_};
-ghost use Prim.Native.Nat.{ℕ, _≤_};
+ghost use Prim.Native.Nat.{ℕ};
 ghost use lib.Chars.{codes};
 ghost use lib.ListN.{length};
 ghost use Rattle.std.specs.Of.Vec.{vec-items};
 ghost use Rattle.std.specs.Vec.{made};
 ghost use Rattle.std.specs.Written.{decimal};
-ghost use Rattle.script.specs.Texts.{lines};
+ghost use Rattle.script.specs.Texts.{lines, Within};
 ghost use Rattle.script.specs.Verdicts.{Verdict, Judged};
 ghost use Rattle.readback.specs.Telling.{faultTold, lineTold, LinesTold, Each-Line-Is-Told-As-It-Was-Understood};
 use bounded::Bounded;
@@ -61,7 +61,7 @@ fn tell_line(heap: Global, out: &mut Vec<u8>, number: u32, line: &[u8]) -> Resul
 
 // Appends what is told of each line of a text, and answers how many lines there are.
 fn tell_lines(heap: Global, out: &mut Vec<u8>, text: &[u8]) -> Result<u32, AllocError>
-    requires { ⌜ length (now text) ≤ 65536 ⌝ }
+    requires { ⌜ Within (now text) ⌝ }
     ensures { λ r. ⌜ made r (λ n. (n ≡ length (lines (now (text .entry)))) × ((body : List ℕ) × LinesTold 1 (lines (now (text .entry))) body × (vec-items (now (out .exit)) ≡ vec-items (now (out .entry)) ++ body))) ⌝ }
 {
     let mut rest = text;

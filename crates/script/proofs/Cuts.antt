@@ -11,7 +11,8 @@ use Rattle.std.specs.Vec.{Every}
 use Rattle.std.specs.shelf.Lists.{countBy}
 use Rattle.std.proofs.shelf.Lists.{drop-more, drop-all, take-all, take-append-drop, nil-from-length, append-assoc}
 use Rattle.std.proofs.shelf.Sums.{sumBy-cons}
-use Rattle.std.proofs.shelf.Ways.{eqb-tells, tells}
+use Rattle.std.proofs.shelf.Tests.{ne-eqb}
+use Rattle.std.proofs.shelf.Ways.{eqb-tells}
 use Rattle.script.specs.Format.{commas, Commaless, NotComma}
 use Rattle.script.specs.Parts.{parts, after, Ends}
 use Rattle.script.specs.Texts.{onto}
@@ -20,13 +21,10 @@ abbrev whole : List (List ℕ) → List ℕ
 whole [] = []
 whole (f ∷ fs) = f ++ commas fs
 
-apart-eqb : (b : ℕ) → NotComma b → eqb b 44 ≡ false
-apart-eqb b h = grind (arith, tells)
-
 pub cut-at : (f rest : List ℕ) → Commaless f → Ends rest → parts (f ++ rest) ≡ f ∷ after rest
 cut-at [] [] h e = refl
 cut-at [] (b ∷ bs) h e = rw e
-cut-at (a ∷ f) rest h e = rw (apart-eqb a (h .0), cut-at f rest (h .1) e)
+cut-at (a ∷ f) rest h e = rw (ne-eqb a 44 (h .0), cut-at f rest (h .1) e)
 
 -- as many parts as commas, and one more
 

@@ -9,3 +9,4 @@ pub mod Laws
 pub mod Lining
 pub mod Drafting
 pub mod ReadBack
+pub mod SoFar

@@ -78,7 +78,3 @@ not-refused m room unwritten.NoRoom a h u = omega (arith, u .1, length-push (fro
 -- what was read can be written where a well-formed line has room
 pub accepted-writes : (l : List ℕ) (m : Meaning) (room : ℕ) (e : WriteRefusal) → Accepted l m → 81 ≤ room → Unwritten m room e → ⊥
 accepted-writes l m room e a h u = not-refused m room e (subst (λ (x : List ℕ). Accepted x m) (a .form .ended) a) h u
-
--- the bytes written are the command's line
-pub written-line : (before after : List ℕ) (m : Meaning) (n : ℕ) → Written before m n after → take n after ≡ line m
-written-line before after m n w = ap (take n) (w .bytes) ∙ take-at (line m) (drop n before) n (sym (w .count))

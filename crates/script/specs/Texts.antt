@@ -12,6 +12,13 @@ use Rattle.script.specs.Verdicts.{Judged, accepted, faulty}
 use Rattle.script.specs.declared.faults.FaultyLine.{FaultyLine}
 use Rattle.script.specs.declared.faults.LineFault.{LineFault}
 
+-- A text within the limit, and one beyond it.
+abbrev pub Within : List ℕ → Type 0
+Within bytes = length bytes ≤ 65536
+
+abbrev pub Beyond : List ℕ → Type 0
+Beyond bytes = 65536 < length bytes
+
 -- A byte put in front of the first line.
 abbrev pub onto : ℕ → List (List ℕ) → List (List ℕ)
 onto b [] = (b ∷ []) ∷ []
@@ -36,7 +43,7 @@ pub record StartsWith (bytes line rest : List ℕ) : Type 0 where
 
 -- These are the faulty lines of the text and no others, so many, and the list has them as far as its places go.
 pub record The-List-Is-Exactly-The-Faulty-Lines (bytes : List ℕ) (before : Bounded FaultyLine) (n : ℕ) (after : Bounded FaultyLine) : Type 0 where
-  pub within : length bytes ≤ 65536
+  pub within : Within bytes
   pub all : List FaultyLine
   pub faulty : FaultyOnes 1 (lines bytes) all
   pub alone : (es : List FaultyLine) → FaultyOnes 1 (lines bytes) es → es ≡ all
@@ -45,5 +52,5 @@ pub record The-List-Is-Exactly-The-Faulty-Lines (bytes : List ℕ) (before : Bou
 
 -- The text is too long, and the list is as it was.
 pub record Refused-Untouched (bytes : List ℕ) (before after : Bounded FaultyLine) : Type 0 where
-  pub beyond : 65536 < length bytes
+  pub beyond : Beyond bytes
   pub untouched : Stays before after

@@ -5,9 +5,8 @@ ghost use lib.Dec.{eqb};
 ghost use lib.ListN.{length, take, drop};
 ghost use Rattle.std.specs.Options.{Cases as BySome};
 ghost use Rattle.std.specs.Results.{Cases};
-ghost use Rattle.std.specs.Written.{decimal};
 ghost use Rattle.std.specs.shelf.Lists.{countBy};
-ghost use Rattle.script.specs.Format.{Form, number, count, mask, Good, shown, marks, Commaless};
+ghost use Rattle.script.specs.Format.{Form, number, count, mask, Good, Fit, shown, marks, Commaless};
 ghost use Rattle.script.specs.Parts.{Ends, after, BadAt, Misfit};
 ghost use Rattle.script.specs.declared.faults.Cause.the-variants.{BadField};
 use crate::command::Mask;
@@ -27,7 +26,7 @@ const DIGITS_MAX: usize = 5;
 pub(crate) trait FieldValue: Sized {
     ghost form: { Form };
 
-    // The bytes are how the value is written, and the value is in range.
+    // The value is in range, and the bytes are how it is written.
     ghost reads: { List ℕ → Self → Type 0 };
 
     law good: { (f : List ℕ) (v : Self) → reads f v → Good form f };
@@ -48,7 +47,7 @@ pub(crate) struct Count(pub(crate) u16);
 pub impl FieldValue for Number as NumberField {
     ghost form = { number };
 
-    ghost reads = { λ f n. (n .0 ≤ 65535) × (f ≡ decimal (n .0)) };
+    ghost reads = { λ f n. Fit number (n .0) × (f ≡ shown number (n .0)) };
 
     fn parse(field: &[u8]) -> Option<Number> {
         if let [b'0', _, ..] = field {
@@ -75,7 +74,7 @@ pub impl FieldValue for Number as NumberField {
 pub impl FieldValue for Count as CountField {
     ghost form = { count };
 
-    ghost reads = { λ f n. (1 ≤ n .0) × (n .0 ≤ 4096) × (f ≡ decimal (n .0)) };
+    ghost reads = { λ f n. Fit count (n .0) × (f ≡ shown count (n .0)) };
 
     fn parse(field: &[u8]) -> Option<Count> {
         let n = NumberField::parse(field)?.0;
@@ -90,7 +89,7 @@ pub impl FieldValue for Count as CountField {
 pub impl FieldValue for Mask as MaskField {
     ghost form = { mask };
 
-    ghost reads = { λ f m. (1 ≤ m .rigs) × (m .rigs ≤ 64) × (m .set < 2 ^ m .rigs) × (f ≡ shown mask (marks (m .rigs) (m .set))) };
+    ghost reads = { λ f m. Fit mask (marks (m .rigs) (m .set)) × (f ≡ shown mask (marks (m .rigs) (m .set))) × (m .set < 2 ^ m .rigs) };
 
     fn parse(field: &[u8]) -> Option<Mask> {
         if field.is_empty() || field.len() > MASK_MAX {

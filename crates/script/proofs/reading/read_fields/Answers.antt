@@ -1,23 +1,20 @@
 use mathlib.Core.Path.{sym, ap, _∙_}
 use mathlib.Core.List.{List, [], _∷_}
 use Prim.Native.Nat.{ℕ}
-use native.Mathlib.Omega.{arith}
 use lib.ListN.{length}
 use Rattle.std.proofs.shelf.Lists.{nil-from-length}
 use Rattle.script.specs.Format.{shape}
 use Rattle.script.specs.Parts.{after}
 use Rattle.script.proofs.Cuts.{only-one}
-use Rattle.script.proofs.Numerals.{length-marks}
 use Rattle.script.proofs.reading.read_fields.Needs as need
 
 pub returns-in-Continue-one-field : need.returns-in-Continue-one-field
 returns-in-Continue-one-field c =
-    let a = c .in-Continue-one-field .ensures tt in
-    let n = length-marks (c .in-Continue-one-field .field-0 .rigs) (c .in-Continue-one-field .field-0 .set) in (
+    let a = c .in-Continue-one-field .ensures tt in (
       record {
         same-word = sym (c .in-PumpType .is);
-        same-fields = sym (a .2 ∙ ap (λ (f : List ℕ). f ∷ []) (a .1 .3));
-        fit = ((omega (arith, n, a .1), omega (arith, n, a .1)), tt);
+        same-fields = sym (a .2 ∙ ap (λ (f : List ℕ). f ∷ []) (a .1 .1));
+        fit = (a .1 .0, tt);
       },
       a .1 .2,
     )

@@ -4,7 +4,7 @@ use native.Mathlib.Omega.{arith}
 use borrow.Author.Needs.{needs}
 use lib.ListN.{length, getD}
 use Rattle.std.proofs.shelf.Elements.{all-getD}
-use Rattle.script.proofs.Numerals.{Bit, Tail, masked-of, tail-none, tail-more, tail-all}
+use Rattle.script.proofs.Numerals.{Bit, Tail, length-marks, masked-of, tail-none, tail-more, tail-all}
 use Rattle.script.proofs.fields.MaskField.parse.Needs as need
 use Rattle.script.proofs.fields.MaskField.parse.Needs.{then-b-lt48·by·then-b-lt48, then-b-lt48·by·else-b-lt48·then-b-gt49}
 
@@ -32,6 +32,7 @@ loop-r-again c =
 pub returns : need.returns
 returns c =
     let s : 1 ≤ length (c .args .field .now) = search needs in
+    let n = length-marks (length (c .args .field .now)) (c .loop-r .set) in
     let z : c .loop-r .r ≡ 0 = omega arith in
     let t = tail-all (c .args .field .now) (c .loop-r .set) (subst (λ (r : ℕ). Tail (c .args .field .now) r (c .loop-r .set)) z (c .loop-r .inv)) in
-    (s, c .if-field-gt-MASK-MAX .left, t .0, t .1)
+    ((omega (arith, n), omega (arith, n, c .if-field-gt-MASK-MAX .left)), t .1, t .0)

@@ -1,9 +1,5 @@
-use native.Mathlib.Omega.{arith}
 use Rattle.script.specs.Format.{marks}
-use Rattle.script.proofs.Numerals.{length-marks}
 use Rattle.script.proofs.fields.MaskField.the-impl.Needs as need
 
 pub good-law : need.good-law
-good-law f m h =
-    let n = length-marks (m .rigs) (m .set) in
-    (marks (m .rigs) (m .set), (omega (arith, h .0), omega (arith, h .1)), h .3)
+good-law f m h = (marks (m .rigs) (m .set), h .0, h .1)

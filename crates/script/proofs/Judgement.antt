@@ -4,8 +4,7 @@ use mathlib.Core.List.{List, [], _∷_, _++_}
 use Prim.Native.Nat.{ℕ, _<_}
 use native.Mathlib.Omega.{arith}
 use lib.ListN.{length}
-use Rattle.std.specs.Vec.{Every}
-use Rattle.std.specs.Vec.{made}
+use Rattle.std.specs.Vec.{Every, made}
 use Rattle.std.specs.Results.{Cases}
 use Rattle.std.specs.declared.result.Result.{Result}
 use Rattle.std.specs.declared.result.Result.the-variants.{Ok, Err}
@@ -20,7 +19,7 @@ use Rattle.script.specs.declared.faults.LineFault.{LineFault}
 use Rattle.script.proofs.Cuts.{rejoined, length-parts, parts-apart}
 
 module _ (l b : List ℕ) (form : WellFormed l b) where
-  -- a line in form is parted as its bytes are
+  -- a well-formed line is parted as its bytes are
   parted : (f : List ℕ) (fs : List (List ℕ)) → parts b ≡ f ∷ fs → Parted l f fs
   parted f fs e = record { form = subst (WellFormed l) (rejoined b f fs e) form; commaless = subst (Every Commaless) e (parts-apart b) }
 

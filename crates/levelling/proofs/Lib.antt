@@ -1,0 +1,10 @@
+pub mod Sums
+pub mod Tightness
+pub mod Growing
+pub mod Reaching
+pub mod Cutting
+pub mod Agreeing
+pub mod Waiting
+pub mod Moving
+pub mod Serving
+pub mod Chaining

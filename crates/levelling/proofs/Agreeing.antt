@@ -6,21 +6,17 @@ use Prim.Native.Nat.{ℕ, _+_, _-_, _*_, _<_, _≤_}
 use native.Mathlib.Omega.{arith}
 use native.Mathlib.Nat.{le-antisymm, mul-le-mul-right}
 use lib.Dec.{ltb, eqb}
-use Rattle.std.proofs.shelf.Tests.{cases-eq, cases-bool, both-ways, ltb-true, lt-ltb, eqb-true, eq-eqb}
+use Rattle.std.proofs.shelf.Tests.{cases-eq, cases-lt, both-ways, ltb-true, lt-ltb, eqb-true, eq-eqb}
 use Rattle.std.proofs.shelf.Ways.{tells}
-use Rattle.levelling.specs.Sums.{Group, Inside, Alike, sumTo, sumOver, size}
+use Rattle.levelling.specs.Sums.{Group, Inside, sumOver, size}
 use Rattle.levelling.specs.Halls.{Hall, pumps, Placing, Placement, height, SamePumps}
 use Rattle.levelling.specs.Groups.{confined, placedOn, Tight, SmallestTight}
-use Rattle.levelling.specs.Levels.{LevelBut, Level, noRig, Cut, excess, Greatest, atHeight, Bottleneck}
-use Rattle.levelling.specs.Theorems.{No-Group-Confines-More-Than-The-Greatest-Height-A-Rig, The-Bottleneck-Confines-More-Than-One-Less-A-Rig, No-Group-Is-Denser-Than-The-Bottleneck-By-A-Whole-Pump-A-Rig, Serving, Agree, Level-Placements-Of-The-Same-Pumps-Agree}
+use Rattle.levelling.specs.Levels.{Level, noRig, Cut, excess, Greatest, atHeight, Bottleneck, HoldsUsable}
+use Rattle.levelling.specs.Theorems.{No-Group-Confines-More-Than-The-Greatest-Height-A-Rig, The-Bottleneck-Confines-More-Than-One-Less-A-Rig, Rounded-Up-No-Group-Is-Denser-Than-The-Bottleneck, Level-Placements-Of-The-Same-Pumps-Agree}
 use Rattle.levelling.proofs.Sums.{sum-le, sum-same, sum-add, sum-zero, sum-even, sum-less, sum-term, sum-some, over-constant, over-le}
 use Rattle.levelling.proofs.Tightness.{confined-at-most, closed-tight, confined-same, placement-widened, same-widened, same-flip, smallest-same, level-same}
-use Rattle.levelling.proofs.Reaching.{smallest-around, around, around-smallest}
+use Rattle.levelling.proofs.Reaching.{stands, smallest-around}
 use Rattle.levelling.proofs.Cutting.{higher, over, over-smallest, level-cut, level-least}
-
--- a class with a pump on a rig stands
-stands : {C R : ℕ} (H : Hall C R) (x : Placing) → Placement H x → (c r : ℕ) → c < C → r < R → x c r ≢ 0 → H .standing c ≢ 0
-stands {C} {R} H x P c r lc lr some z = some (omega (arith, sum-term R (x c) r lr, P .each-once c lc))
 
 -- the rigs of the greatest height are those higher than one less
 module _ (R : ℕ) (h : ℕ → ℕ) (L : ℕ) (top : Greatest R h L) (pos : L ≢ 0) where
@@ -71,26 +67,37 @@ highest-not-zero {C} {R} H x P some L top z =
     let here = sum-term C (λ c. x c (r .0)) (c .0) (c .1) in
     omega (arith, top .most (r .0) (r .1), r .2)
 
-pub bottleneck-dense : The-Bottleneck-Confines-More-Than-One-Less-A-Rig
-bottleneck-dense C R H x P level some L M b =
+-- the bottleneck, where the greatest height is not 0
+dense : (C R : ℕ) (H : Hall C R) (x : Placing) → Placement H x → Level H (height C x) → (L : ℕ) (M : Group) → Bottleneck H (height C x) L M →
+    L ≢ 0 → (L - 1) * size R M < confined H M
+dense C R H x P level L M b pos =
     let top = b .greatest in
-    let pos = highest-not-zero H x P some L top in
     more-than H x P level (L - 1) (top .rig) (top .within) (omega (arith, top .reached)) M
     (smallest-around R (Tight H (height C x)) (atHeight (height C x) L) (higher (height C x) (L - 1)) M
     (at-higher R (height C x) L top pos) (higher-at R (height C x) L top pos) (b .smallest))
 
--- p pumps on n rigs are no more than k + 1 a rig, and q on m more than k
-less-dense : (k L p n q m : ℕ) → L ≡ k + 1 → p ≤ L * n → k * m < q → n ≢ 0 → p * m < (q + 1 * m) * n
-less-dense k L p n q m e most dense some =
-    let most′ : p ≤ (k + 1) * n = rw (← e) most in
-    let dense′ : k * m + 1 ≤ q = omega arith in
-    omega (arith, mul-le-mul-right m most′, mul-le-mul-right n dense′)
+pub bottleneck-dense : The-Bottleneck-Confines-More-Than-One-Less-A-Rig
+bottleneck-dense C R H x P level some L M b = dense C R H x P level L M b (highest-not-zero H x P some L (b .greatest))
 
-pub none-denser : No-Group-Is-Denser-Than-The-Bottleneck-By-A-Whole-Pump-A-Rig
-none-denser C R H x P level some L M b G rig =
-    let pos = highest-not-zero H x P some L (b .greatest) in
-    less-dense (L - 1) L (confined H G) (size R G) (confined H M) (size R M) (omega arith)
-    (at-most C R H x P L (b .greatest) G) (bottleneck-dense C R H x P level some L M b) rig
+-- more than L - 1 a rig and at most n a rig: so L is at most n
+at-least : (L n p m : ℕ) → L ≢ 0 → (L - 1) * m < p → p ≤ n * m → L ≤ n
+at-least L n p m pos more most =
+    elim (cases-lt n L) [
+      | inr le ↦ le
+      | inl less ↦
+          let below : n ≤ L - 1 = omega arith in
+          let none : ⊥ = omega (arith, mul-le-mul-right m below) in
+          absurd none
+    ]
+
+pub rounded-up : Rounded-Up-No-Group-Is-Denser-Than-The-Bottleneck
+rounded-up C R H x P level L M b n most G =
+    elim (cases-eq L 0) [
+      | inl z ↦ omega (arith, at-most C R H x P L (b .greatest) G, ap (λ l. l * size R G) z)
+      | inr pos ↦
+          let le = at-least L n (confined H M) (size R M) pos (dense C R H x P level L M b pos) (omega arith) in
+          omega (arith, at-most C R H x P L (b .greatest) G, mul-le-mul-right (size R G) le)
+    ]
 
 -- ---- how many rigs have each height
 count-higher : (n k : ℕ) → n - k ≡ (n - (k + 1)) + cond (ltb k n) 1 0
@@ -123,12 +130,12 @@ same-sizes R S h h′ out out′ same k =
     ]
 
 -- a rig that is not in service has no pump
-shut-bare : {C R : ℕ} (H : Hall C R) (x : Placing) → Placement H x → (S : Group) → Serving H S →
+shut-bare : {C R : ℕ} (H : Hall C R) (x : Placing) → Placement H x → (S : Group) → HoldsUsable H S →
     (r : ℕ) → r < R → S r ≡ false → height C x r ≡ 0
-shut-bare {C} {R} H x P S serving r l out =
+shut-bare {C} {R} H x P S all r l out =
     sum-zero C _ (λ c lc. elim (cases-eq (x c r) 0) [
       | inl z ↦ z
-      | inr d ↦ absurd (both-ways _ out (serving c lc (stands H x P c r lc l d) r l (P .on-usable c r lc l d)))
+      | inr d ↦ absurd (both-ways _ out (all c lc (stands H x P c r lc l d) r l (P .on-usable c r lc l d)))
     ])
 
 -- ---- two level placements in one hall
@@ -225,25 +232,34 @@ module _ {C R : ℕ} (H : Hall C R) (x y : Placing) (P : Placement H x) (Q : Pla
       ]
 
 -- ---- in two halls
+module _ {C R : ℕ} (H H′ : Hall C R) (x y : Placing) (same : SamePumps H H′) (P : Placement H x) (Q : Placement H′ y)
+    (lx : Level H (height C x)) (ly : Level H′ (height C y)) where
+  -- y is a placement of the same pumps in H, and level there
+  there : Placement H y
+  there = placement-widened H′ H y (same-widened H′ H (same-flip H H′ same)) Q
+
+  level-there : Level H (height C y)
+  level-there = level-same H′ H (height C y) (height C y) (same-flip H H′ same) (λ r l. refl) noRig ly
+
+  same-bottleneck : (L : ℕ) (M : Group) → Bottleneck H (height C x) L M → Bottleneck H′ (height C y) L M
+  same-bottleneck L M b = record {
+    greatest = same-greatest H x y P there lx level-there L (b .greatest);
+    smallest =
+        smallest-same H H′ (height C y) (height C y) same (λ r l. refl) (atHeight (height C y) L) (atHeight (height C y) L) M M
+        (λ r l. refl) (λ r l. refl) (same-smallest H x y P there lx level-there L (b .greatest) M (b .smallest));
+  }
+
+  same-counts : (S : Group) → HoldsUsable H S → (k : ℕ) →
+      size R (λ r. S r && atHeight (height C x) k r) ≡ size R (λ r. S r && atHeight (height C y) k r)
+  same-counts S all =
+      same-sizes R S (height C x) (height C y) (shut-bare H x P S all) (shut-bare H y there S all) (same-higher H x y P there lx level-there)
+
 pub agree : Level-Placements-Of-The-Same-Pumps-Agree
 agree C R H H′ x y same P Q lx ly = record {
-  counts = λ S serving. same-sizes R S (height C x) (height C y) (shut-bare H x P S serving) (shut-bare H y Q′ S serving)
-      (same-higher H x y P Q′ lx ly′);
-  bottleneck = λ L M b. record {
-    greatest = same-greatest H x y P Q′ lx ly′ L (b .greatest);
-    smallest =
-        smallest-same H H′ (height C y) (height C y) same (λ r l. refl) (atHeight (height C y) L) M
-        (same-smallest H x y P Q′ lx ly′ L (b .greatest) M (b .smallest));
-  };
+  counts = same-counts H H′ x y same P Q lx ly;
+  bottleneck = λ L M. (
+    same-bottleneck H H′ x y same P Q lx ly L M,
+    same-bottleneck H′ H y x (same-flip H H′ same) Q P ly lx L M,
+  );
   confines = λ G. confined-same H H′ G G same (λ r l. refl);
 }
-  where
-    -- y is a placement of the same pumps in H, and level there
-    back : SamePumps H′ H
-    back = same-flip H H′ same
-
-    Q′ : Placement H y
-    Q′ = placement-widened H′ H y (same-widened H′ H back) Q
-
-    ly′ : Level H (height C y)
-    ly′ = level-same H′ H (height C y) (height C y) back (λ r l. refl) noRig ly

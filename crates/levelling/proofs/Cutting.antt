@@ -1,15 +1,15 @@
 -- Level is a cut at every height, and a cut at k shows that no placement has less above k.
 use mathlib.Core.Path.{_≡_, refl, sym, _∙_}
 use mathlib.Core.Logic.{inl, inr}
-use mathlib.Core.Bool.{Bool, true, false, cond}
+use mathlib.Core.Bool.{Bool, true, cond}
 use Prim.Native.Nat.{ℕ, _+_, _-_, _<_, _≤_}
 use native.Mathlib.Omega.{arith}
 use lib.Dec.{ltb}
 use Rattle.std.proofs.shelf.Tests.{cases-eq, eqb-true, ltb-true, lt-ltb}
 use Rattle.levelling.specs.Sums.{Group, only, Inside, sumOver}
-use Rattle.levelling.specs.Halls.{Hall, Placing, Placement, height, Widened}
+use Rattle.levelling.specs.Halls.{Hall, Placing, Placement, height}
 use Rattle.levelling.specs.Groups.{confined, placedOn, Tight, SmallestTight}
-use Rattle.levelling.specs.Levels.{LevelBut, Level, noRig, Cut, excess}
+use Rattle.levelling.specs.Levels.{LevelBut, noRig, Cut, excess}
 use Rattle.levelling.specs.Theorems.{Level-Is-A-Cut-At-Every-Height, A-Level-Placement-Has-The-Least-Excess, More-Usable-Rigs-Never-Mean-More-Excess}
 use Rattle.levelling.proofs.Sums.{sum-le, sum-same, sum-add}
 use Rattle.levelling.proofs.Tightness.{confined-at-most, placement-widened}

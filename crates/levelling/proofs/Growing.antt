@@ -1,13 +1,13 @@
 -- Around any numbers there is a smallest group closed under steps: add one number after another until no step leads out.
-use mathlib.Core.Path.{_≡_, refl, sym, _∙_}
+use mathlib.Core.Path.{_≡_}
 use mathlib.Core.Logic.{_⊎_, inl, inr}
-use mathlib.Core.Bool.{Bool, true, false, not, _&&_, _||_}
+use mathlib.Core.Bool.{Bool, true, false, not, _&&_}
 use Prim.Native.Nat.{ℕ, zero, suc, _+_, _<_, _≤_}
 use native.Mathlib.Omega.{arith}
 use lib.Dec.{eqb}
-use Rattle.std.proofs.shelf.Tests.{cases-bool, both-ways, or-cases, or-left, eqb-true, and-parts, and-from, not-true, not-from-false}
+use Rattle.std.proofs.shelf.Tests.{cases-bool, or-cases, or-left, eqb-true, and-parts, and-from, not-true, not-from-false}
 use Rattle.std.proofs.shelf.Ways.{not-from-decides}
-use Rattle.levelling.specs.Sums.{Group, Inside, size}
+use Rattle.levelling.specs.Sums.{Group, size}
 use Rattle.levelling.specs.Groups.{Smallest}
 use Rattle.levelling.proofs.Sums.{anyTo, any-decides, with-one, size-with-one, size-at-most}
 

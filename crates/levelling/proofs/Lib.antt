@@ -4,7 +4,8 @@ pub mod Growing
 pub mod Reaching
 pub mod Cutting
 pub mod Agreeing
-pub mod Waiting
+pub mod Chaining
 pub mod Moving
 pub mod Serving
-pub mod Chaining
+pub mod Existing
+pub mod Waiting

@@ -1,19 +1,20 @@
 -- A pump added, removed or pulled by the rules leaves what was level level: at every k a cut before gives one after.
 use mathlib.Core.Path.{_≡_, refl, sym, ap, _∙_}
 use mathlib.Core.Logic.{_≢_, _↔_, inl, inr}
-use mathlib.Core.Bool.{Bool, true, false, cond, _||_}
+use mathlib.Core.Bool.{true, false, cond, _||_}
 use Prim.Native.Nat.{ℕ, _+_, _<_, _≤_}
 use native.Mathlib.Omega.{arith}
-use Rattle.std.proofs.shelf.Tests.{cases-eq, cases-lt, or-cases, or-left, or-right, eqb-true, ne-eqb, eqb-false}
-use Rattle.levelling.specs.Sums.{Group, only, Inside, inside, sumTo, sumOver, OneMore, OneMoved}
+use Rattle.std.proofs.shelf.Tests.{cases-eq, cases-lt, or-cases, or-left, or-right, ne-eqb, eqb-false}
+use Rattle.levelling.specs.Sums.{Group, only, Inside, inside, OneMore, OneMoved}
 use Rattle.levelling.specs.Halls.{Hall, Placing, Placement, height}
-use Rattle.levelling.specs.Groups.{confined, Tight, SmallestTight}
-use Rattle.levelling.specs.Levels.{LevelBut, Level, noRig, Cut, Highest}
-use Rattle.levelling.specs.Changes.{OnePumpMore, DonorOf, DonorTo}
-use Rattle.levelling.specs.Theorems.{Adding-To-A-Lowest-Rig-Of-The-Group-Keeps-Level, Removing-From-A-Highest-Donor-Keeps-Level, A-Pull-From-A-Highest-Donor-Leaves-Only-That-Rig-Too-Low, Level-When-No-Donor-Is-More-Than-One-Higher}
+use Rattle.levelling.specs.Groups.{confined, Tight}
+use Rattle.levelling.specs.Levels.{noRig, Cut}
+use Rattle.levelling.specs.Changes.{OnePumpMore, DonorTo}
+use Rattle.levelling.specs.Theorems.{Adding-To-A-Lowest-Rig-Of-Its-Smallest-Tight-Group-Keeps-Level, Removing-From-A-Highest-Donor-Keeps-Level, A-Pull-From-A-Highest-Donor-Keeps-Level-But-For-The-Rig, Level-When-No-Donor-To-The-Rig-Is-More-Than-One-Higher}
 use Rattle.levelling.proofs.Sums.{over-same, over-more, over-moved, more-cases, moved-cases, sum-some, inside-decides, is-false}
 use Rattle.levelling.proofs.Tightness.{inside-same, union-tight}
-use Rattle.levelling.proofs.Reaching.{around, around-smallest, around-within, gives, given, donor-of-to, donor-to-of}
+use Rattle.levelling.proofs.Chaining.{can-raise, can-lower, can-pull}
+use Rattle.levelling.proofs.Reaching.{smallest-one, around, around-smallest, around-within, gives, given, donor-to-of}
 use Rattle.levelling.proofs.Cutting.{over, over-smallest, over-holds, over-within, over-from, level-cut, cuts-level}
 
 -- with one more pump of t and one more on g, a group is tight just if it was, where it confines t just if it has g
@@ -34,8 +35,9 @@ module _ {C R : ℕ} (H H′ : Hall C R) (t g : ℕ) (more : OnePumpMore H t H�
   tight-without : (G : Group) → (Inside R (H .usable t) G → ⊥) → (G g ≡ true → ⊥) → Tight H h G ↔ Tight H′ h′ G
   tight-without G i m = tight-more G (is-false _ (λ e. i (inside-decides R _ G .0 e)) ∙ sym (is-false _ m))
 
-pub adding : Adding-To-A-Lowest-Rig-Of-The-Group-Keeps-Level
-adding C R H H′ x P level t more A a g low h rise = cuts-level H′ h noRig cuts
+pub adding : Adding-To-A-Lowest-Rig-Of-Its-Smallest-Tight-Group-Keeps-Level
+adding C R H H′ x P level t more A a g low =
+    (can-raise H x P H′ t g more A a (low .within) (low .has), λ y to. cuts-level H′ (height C y) noRig (cuts (height C y) (to .heights)))
   where
     old : (k : ℕ) → Cut H (height C x) noRig k
     old k = level-cut H x P k noRig level
@@ -43,8 +45,8 @@ adding C R H H′ x P level t more A a g low h rise = cuts-level H′ h noRig cu
     lg : g < R
     lg = low .within
 
-    cuts : (k : ℕ) → Cut H′ h noRig k
-    cuts k =
+    cuts : (h : ℕ → ℕ) → OneMore R g (height C x) h → (k : ℕ) → Cut H′ h noRig k
+    cuts h rise k =
         elim (cases-lt (height C x g) k) [
           | inl high ↦
               -- g is too low for the old group, which so does not confine t either
@@ -57,10 +59,7 @@ adding C R H H′ x P level t more A a g low h rise = cuts-level H′ h noRig cu
                   | inl q ↦ let none : ⊥ = omega (arith, ap (height C x) (q .0)) in absurd none
                   | inr q ↦ old k .above r l (omega arith)
                 ];
-                below = λ r l m e. elim (more-cases R g (height C x) h rise r l) [
-                  | inl q ↦ omega (arith, old k .below r l m e)
-                  | inr q ↦ omega (arith, old k .below r l m e)
-                ];
+                below = λ r l m e. omega (arith, rise r l, old k .below r l m e);
               }
           | inr under ↦ record {
             group = λ r. old k .group r || A r;
@@ -76,7 +75,7 @@ adding C R H H′ x P level t more A a g low h rise = cuts-level H′ h noRig cu
                   | inl o ↦ old k .below r l o e
                   | inr n ↦ omega (arith, low .least r l n)
                 ] in
-                elim (more-cases R g (height C x) h rise r l) [ inl q ↦ omega arith | inr q ↦ omega arith ];
+                omega (arith, rise r l);
           }
         ]
 
@@ -91,7 +90,10 @@ higher-donor : {C R : ℕ} (H : Hall C R) (x : Placing) (P : Placement H x) (k r
 higher-donor H x P k r lr m = let w = over-from H x P k r lr m in (w .0, w .1, w .2, gives H x P (w .0) r (w .1) lr (w .3))
 
 pub removing : Removing-From-A-Highest-Donor-Keeps-Level
-removing C R H H′ x P level t less d top h fall = cuts-level H′ h noRig cuts
+removing C R H H′ x P level t less d top = (
+  can-lower H x P H′ t d less (top .has) p (placed .1) (placed .2),
+  λ y to. cuts-level H′ (height C y) noRig (cuts (height C y) (to .heights)),
+)
   where
     old : (k : ℕ) → Cut H (height C x) noRig k
     old k = level-cut H x P k noRig level
@@ -127,8 +129,8 @@ removing C R H H′ x P level t less d top h fall = cuts-level H′ h noRig cuts
         let w = higher-donor H x P k p lp (all p lp (P .on-usable t p (less .class) lp (placed .2))) in
         omega (arith, top .most (w .0) (w .1) (donor-to-of H x P p lp t (w .0) (less .class) (placed .2) (w .3)), w .2)
 
-    cuts : (k : ℕ) → Cut H′ h noRig k
-    cuts k =
+    cuts : (h : ℕ → ℕ) → OneMore R d h (height C x) → (k : ℕ) → Cut H′ h noRig k
+    cuts h fall k =
         elim (cases-lt k (height C x d)) [
           | inl high ↦
               let m = old k .above d ld high in
@@ -136,10 +138,7 @@ removing C R H H′ x P level t less d top h fall = cuts-level H′ h noRig cuts
                 group = old k .group;
                 tight = tight-with H′ H t d less ld h (height C x) fall (old k .group)
                     (same-usable (old k .group) (with-d (old k .group) (old k .tight) m)) m .1 (old k .tight);
-                above = λ r l b. elim (more-cases R d h (height C x) fall r l) [
-                  | inl q ↦ old k .above r l (omega arith)
-                  | inr q ↦ old k .above r l (omega arith)
-                ];
+                above = λ r l b. old k .above r l (omega (arith, fall r l));
                 below = λ r l i e. elim (more-cases R d h (height C x) fall r l) [
                   | inl q ↦ omega (arith, ap (height C x) (q .0))
                   | inr q ↦ omega (arith, old k .below r l i e)
@@ -152,10 +151,7 @@ removing C R H H′ x P level t less d top h fall = cuts-level H′ h noRig cuts
                 group = over H x P k;
                 tight = tight-without H′ H t d less ld h (height C x) fall (over H x P k)
                     (λ i. not-over k under (back-usable (over H x P k) i)) out .1 (over-smallest H x P k .fits);
-                above = λ r l b. elim (more-cases R d h (height C x) fall r l) [
-                  | inl q ↦ over-holds H x P k r l (omega arith)
-                  | inr q ↦ over-holds H x P k r l (omega arith)
-                ];
+                above = λ r l b. over-holds H x P k r l (omega (arith, fall r l));
                 below = λ r l i e. elim (more-cases R d h (height C x) fall r l) [
                   | inl q ↦ absurd (out (ap (over H x P k) (sym (q .0)) ∙ i))
                   | inr q ↦ omega (arith, old k .below r l (over-within H x P k (old k .group) (old k .tight) (old k .above) r l i) e)
@@ -163,8 +159,9 @@ removing C R H H′ x P level t less d top h fall = cuts-level H′ h noRig cuts
               }
         ]
 
-pub pulling : A-Pull-From-A-Highest-Donor-Leaves-Only-That-Rig-Too-Low
-pulling C R H x P r lr level d top two h moved = cuts-level H h (only r) cuts
+pub pulling : A-Pull-From-A-Highest-Donor-Keeps-Level-But-For-The-Rig
+pulling C R H x P r lr level d top two =
+    (can-pull H x P d r lr (top .has), λ y to. cuts-level H (height C y) (only r) (cuts (height C y) (to .heights)))
   where
     old : (k : ℕ) → Cut H (height C x) (only r) k
     old k = level-cut H x P k (only r) level
@@ -175,22 +172,22 @@ pulling C R H x P r lr level d top two h moved = cuts-level H h (only r) cuts
     apart : d ≢ r
     apart e = omega (arith, ap (height C x) e)
 
-    tight-moved : (G : Group) → G d ≡ G r → Tight H (height C x) G → Tight H h G
-    tight-moved G e t =
+    tight-moved : (h : ℕ → ℕ) → OneMoved R d r (height C x) h → (G : Group) → G d ≡ G r → Tight H (height C x) G → Tight H h G
+    tight-moved h moved G e t =
         omega (arith, over-moved R G d r (height C x) h ld lr moved, ap (λ b. cond {A = ℕ} b 1 0) e)
 
     not-r : (j : ℕ) → only r j ≡ false → j ≢ r
     not-r j e q = eqb-false r j e (sym q)
 
-    cuts : (k : ℕ) → Cut H h (only r) k
-    cuts k =
+    cuts : (h : ℕ → ℕ) → OneMoved R d r (height C x) h → (k : ℕ) → Cut H h (only r) k
+    cuts h moved k =
         elim (cases-lt k (height C x d)) [
           | inl high ↦
               let m = old k .above d ld high in
               let mr = donor-brings H x P d r lr (top .has) (old k .group) (old k .tight) m in
               record {
                 group = old k .group;
-                tight = tight-moved (old k .group) (m ∙ sym mr) (old k .tight);
+                tight = tight-moved h moved (old k .group) (m ∙ sym mr) (old k .tight);
                 above = λ j lj b. elim (moved-cases R d r (height C x) h moved apart j lj) [
                   | inl q ↦ old k .above j lj (omega arith)
                   | inr w ↦ elim w [
@@ -213,7 +210,7 @@ pulling C R H x P r lr level d top two h moved = cuts-level H h (only r) cuts
               λ m. out-r (donor-brings H x P d r lr (top .has) (over H x P k) (over-smallest H x P k .fits) m) in
               record {
                 group = over H x P k;
-                tight = tight-moved (over H x P k) (is-false _ out-d ∙ sym (is-false _ out-r)) (over-smallest H x P k .fits);
+                tight = tight-moved h moved (over H x P k) (is-false _ out-d ∙ sym (is-false _ out-r)) (over-smallest H x P k .fits);
                 above = λ j lj b. elim (moved-cases R d r (height C x) h moved apart j lj) [
                   | inl q ↦ over-holds H x P k j lj (omega arith)
                   | inr w ↦ elim w [
@@ -231,22 +228,13 @@ pulling C R H x P r lr level d top two h moved = cuts-level H h (only r) cuts
               }
         ]
 
-pub pulled : Level-When-No-Donor-Is-More-Than-One-Higher
-pulled C R H x P r lr level low = cuts-level H (height C x) noRig cuts
-  where
-    old : (k : ℕ) → Cut H (height C x) (only r) k
-    old k = level-cut H x P k (only r) level
-
-    cuts : (k : ℕ) → Cut H (height C x) noRig k
-    cuts k = record {
-      group = over H x P k;
-      tight = over-smallest H x P k .fits;
-      above = over-holds H x P k;
-      below = λ j lj g e. elim (cases-eq r j) [
-        | inl q ↦
-            let m : over H x P k r ≡ true = ap (over H x P k) q ∙ g in
-            let w = higher-donor H x P k r lr m in
-            omega (arith, ap (height C x) q, low (w .0) (w .1) (w .3), w .2)
-        | inr d ↦ old k .below j lj (over-within H x P k (old k .group) (old k .tight) (old k .above) j lj g) (ne-eqb r j d)
-      ];
-    }
+pub pulled : Level-When-No-Donor-To-The-Rig-Is-More-Than-One-Higher
+pulled C R H h r level low d j G ld lj a g e =
+    elim (cases-eq r j) [
+      | inr ne ↦ level d j G ld lj a g (ne-eqb r j ne)
+      | inl q ↦
+          let held : G r ≡ true = ap G q ∙ g in
+          let lr : r < R = rw q lj in
+          let donor : DonorTo H h r d = λ F b. smallest-one R (Tight H h) (only d) F G b a r lr ∙ held in
+          omega (arith, low d ld donor, ap h q)
+    ]

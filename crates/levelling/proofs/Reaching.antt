@@ -1,8 +1,8 @@
 -- The smallest tight group around some rigs: what they reach by steps from a rig to the usable rigs of a pump on it.
-use mathlib.Core.Path.{_≡_, refl, sym, ap, _∙_}
+use mathlib.Core.Path.{_≡_, refl, sym, _∙_}
 use mathlib.Core.Logic.{_≢_, _↔_, inl, inr}
-use mathlib.Core.Bool.{Bool, true, false, not, _&&_}
-use Prim.Native.Nat.{ℕ, _<_, _≤_}
+use mathlib.Core.Bool.{Bool, true, not, _&&_}
+use Prim.Native.Nat.{ℕ, _<_}
 use native.Mathlib.Omega.{arith}
 use lib.Dec.{eqb}
 use Rattle.std.proofs.shelf.Tests.{cases-bool, both-ways, eqb-true, eqb-false, eq-eqb, ne-eqb, and-parts, and-from, not-true, not-from-false}
@@ -10,10 +10,14 @@ use Rattle.levelling.specs.Sums.{Group, only, Inside, Alike}
 use Rattle.levelling.specs.Halls.{Hall, Placing, Placement, height}
 use Rattle.levelling.specs.Groups.{Tight, Smallest, SmallestTight, Closed, ClosedBackwards, ReachedBackwards}
 use Rattle.levelling.specs.Changes.{DonorOf, DonorTo}
-use Rattle.levelling.specs.Theorems.{Any-Rigs-Have-One-Smallest-Tight-Group, The-Donors-Are-Told-In-Three-Ways}
-use Rattle.levelling.proofs.Sums.{anyTo, any-decides, is-false}
+use Rattle.levelling.specs.Theorems.{Any-Rigs-Have-One-Smallest-Tight-Group, The-Donors-Of-A-Class-Are-What-Any-Rig-With-Its-Pump-Reaches-Backwards}
+use Rattle.levelling.proofs.Sums.{sum-term, anyTo, any-decides, is-false}
 use Rattle.levelling.proofs.Tightness.{tight-closed, closed-tight}
 use Rattle.levelling.proofs.Growing.{Steps, ClosedBy, Grown, smallest-as, closure}
+
+-- a class with a pump on a rig stands
+pub stands : {C R : ℕ} (H : Hall C R) (x : Placing) → Placement H x → (c r : ℕ) → c < C → r < R → x c r ≢ 0 → H .standing c ≢ 0
+stands {C} {R} H x P c r lc lr some z = some (omega (arith, sum-term R (x c) r lr, P .each-once c lc))
 
 -- smallest groups around the same are the same
 pub smallest-one : (n : ℕ) (P : Group → Type 0) (S F G : Group) → Smallest n P S F → Smallest n P S G → Alike n F G
@@ -148,7 +152,7 @@ module _ {C R : ℕ} (H : Hall C R) (x : Placing) (P : Placement H x) (r : ℕ) 
       let same = smallest-one R (ClosedBackwards H x) (only r) G donors back donors-backwards d ld in
       (λ donor. same ∙ given H x P d r donor, λ g. gives H x P d r ld lr (sym same ∙ g))
 
-pub three-ways : The-Donors-Are-Told-In-Three-Ways
+pub three-ways : The-Donors-Of-A-Class-Are-What-Any-Rig-With-Its-Pump-Reaches-Backwards
 three-ways C R H x P r lr = (
   (λ t d lt some. (donor-of-to H x P r lr t d lt some, donor-to-of H x P r lr t d lt some)),
   donors-told H x P r lr,

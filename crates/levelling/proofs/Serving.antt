@@ -1,16 +1,15 @@
 -- A rig left out with its pumps leaves what was level level, and a rig let in is the only one too low.
 use mathlib.Core.Path.{_≡_, refl, sym, ap, _∙_}
 use mathlib.Core.Logic.{_≢_, inl, inr}
-use mathlib.Core.Bool.{true, false, not, cond, _&&_}
-use Prim.Native.Nat.{ℕ, _+_, _<_, _≤_}
+use mathlib.Core.Bool.{not, cond, _&&_}
+use Prim.Native.Nat.{ℕ, _+_, _<_}
 use native.Mathlib.Omega.{arith}
 use lib.Dec.{eqb}
 use Rattle.std.proofs.shelf.Tests.{cases-eq, both-ways, or-cases, or-left, or-right, and-parts, and-from, eqb-true, eqb-false, eq-eqb, ne-eqb, not-true, not-from-false}
-use Rattle.levelling.specs.Sums.{Group, only, sumTo}
-use Rattle.levelling.specs.Halls.{Hall, Placing, Placement, height}
-use Rattle.levelling.specs.Levels.{LevelBut, Level, noRig, Cut}
-use Rattle.levelling.specs.Changes.{LeftOut, LetIn}
-use Rattle.levelling.specs.Theorems.{Leaving-Out-A-Rig-And-Its-Pumps-Keeps-Level, A-Rig-Let-In-Is-The-Only-One-Too-Low}
+use Rattle.levelling.specs.Sums.{only}
+use Rattle.levelling.specs.Halls.{Placement, height}
+use Rattle.levelling.specs.Levels.{noRig, Cut}
+use Rattle.levelling.specs.Theorems.{Leaving-Out-A-Rig-And-Its-Pumps-Keeps-Level, Letting-In-A-Rig-Keeps-Level-But-For-It}
 use Rattle.levelling.proofs.Sums.{sum-same, sum-zero, sum-add, sum-spot, with-one}
 use Rattle.levelling.proofs.Tightness.{tight-closed, closed-tight}
 use Rattle.levelling.proofs.Cutting.{level-cut, cuts-level}
@@ -71,7 +70,7 @@ leaving-out C R H H′ x x′ P level r left = (P′, cuts-level H′ (height C 
           omega (arith, same-height j lj d, old k .below j lj (parts .0) e);
     }
 
-pub letting-in : A-Rig-Let-In-Is-The-Only-One-Too-Low
+pub letting-in : Letting-In-A-Rig-Keeps-Level-But-For-It
 letting-in C R H H′ x P level r into = (P′, bare, cuts-level H′ (height C x) (only r) cuts)
   where
     elsewhere : (c j : ℕ) → c < C → j < R → x c j ≢ 0 → j ≢ r

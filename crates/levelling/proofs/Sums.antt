@@ -1,11 +1,11 @@
 -- Laws of sums below n, and of groups as tests.
 use mathlib.Core.Path.{_≡_, refl, sym, ap, _∙_}
 use mathlib.Core.Logic.{_≢_, _⊎_, inl, inr}
-use mathlib.Core.Bool.{Bool, true, false, not, cond, _&&_, _||_}
+use mathlib.Core.Bool.{Bool, true, false, not, cond, _||_}
 use Prim.Native.Nat.{ℕ, zero, suc, _+_, _*_, _<_, _≤_}
 use native.Mathlib.Omega.{arith}
 use Rattle.std.specs.Orderings.{Decides}
-use Rattle.std.proofs.shelf.Tests.{cases-eq, cases-bool, true≢false, false≢true}
+use Rattle.std.proofs.shelf.Tests.{cases-eq, cases-bool, false≢true}
 use Rattle.std.proofs.shelf.Ways.{decides-below-and, decides-below-or, not-from-decides}
 use lib.Dec.{eqb}
 use Rattle.levelling.specs.Sums.{Group, Inside, inside, Alike, sumTo, sumOver, size, unit, OneMore, OneMoved}

@@ -4,12 +4,12 @@ use mathlib.Core.Logic.{_≢_, inl, inr}
 use mathlib.Core.Bool.{Bool, true, false, cond, _&&_, _||_}
 use Prim.Native.Nat.{ℕ, _<_, _≤_}
 use native.Mathlib.Omega.{arith}
-use Rattle.std.proofs.shelf.Tests.{cases-bool, cases-eq, both-ways, cond-true, cond-false, or-cases, or-left, or-right, and-parts, and-from}
+use Rattle.std.proofs.shelf.Tests.{cases-bool, cases-eq, cond-true, cond-false, or-cases, or-left, or-right, and-parts, and-from}
 use Rattle.std.proofs.shelf.Ways.{same-from-decides, decides-like}
 use lib.Dec.{eqb}
 use Rattle.levelling.specs.Sums.{Group, Inside, inside, Alike, sumTo, sumOver}
 use Rattle.levelling.specs.Halls.{Hall, Placing, Placement, height, SamePumps, Widened}
-use Rattle.levelling.specs.Groups.{confined, placedOn, Tight, Smallest, SmallestTight, Closed}
+use Rattle.levelling.specs.Groups.{confined, placedOn, Tight, SmallestTight, Closed}
 use Rattle.levelling.specs.Levels.{LevelBut}
 use Rattle.levelling.specs.Theorems.{Confined-Pumps-Are-Never-More-Than-Placed, A-Group-Is-Tight-Exactly-When-Closed, The-Common-Part-And-Union-Of-Tight-Groups-Are-Tight, Tightness-Depends-Only-On-Usable-Sets-Standing-Counts-And-Heights}
 use Rattle.levelling.proofs.Sums.{sum-le, sum-same, sum-zero, sum-swap, sum-term, sum-even, over-same, inside-decides, inside-not}
@@ -148,17 +148,19 @@ module _ {C R : ℕ} (H H′ : Hall C R) (h h′ : ℕ → ℕ) (same : SamePump
   tight-same F G e t = sym (confined-same H H′ F G same e) ∙ t ∙ over-same R F G h h′ e alike
 
 module _ {C R : ℕ} (H H′ : Hall C R) (h h′ : ℕ → ℕ) (same : SamePumps H H′) (alike : Alike R h h′) where
-  pub smallest-same : (S G : Group) → SmallestTight H h S G → SmallestTight H′ h′ S G
-  smallest-same S G a = record {
-    holds = a .holds;
-    fits = tight-same H H′ h h′ same alike G G (λ i l. refl) (a .fits);
-    least = λ G′ t. a .least G′ (tight-same H′ H h′ h (same-flip H H′ same) (flip R h h′ alike) G′ G′ (λ i l. refl) t);
+  pub smallest-same : (S S′ F G : Group) → Alike R S S′ → Alike R F G → SmallestTight H h S F → SmallestTight H′ h′ S′ G
+  smallest-same S S′ F G around groups a = record {
+    holds = λ r l s. sym (groups r l) ∙ a .holds r l (around r l ∙ s);
+    fits = tight-same H H′ h h′ same alike F G groups (a .fits);
+    least = λ G′ t i r l g.
+        a .least G′ (tight-same H′ H h′ h (same-flip H H′ same) (flip R h h′ alike) G′ G′ (λ i l. refl) t)
+        (λ j lj s. i j lj (sym (around j lj) ∙ s)) r l (groups r l ∙ g);
   }
 
 module _ {C R : ℕ} (H H′ : Hall C R) (h h′ : ℕ → ℕ) (same : SamePumps H H′) (alike : Alike R h h′) where
   pub level-same : (E : Group) → LevelBut H h E → LevelBut H′ h′ E
   level-same E level r j G lr lj a g e =
-      let near = level r j G lr lj (smallest-same H′ H h′ h (same-flip H H′ same) (flip R h h′ alike) (eqb r) G a) g e in
+      let near = level r j G lr lj (smallest-same H′ H h′ h (same-flip H H′ same) (flip R h h′ alike) (eqb r) (eqb r) G G (λ i l. refl) (λ i l. refl) a) g e in
       omega (arith, alike r lr, alike j lj)
 
 pub depends-only : Tightness-Depends-Only-On-Usable-Sets-Standing-Counts-And-Heights

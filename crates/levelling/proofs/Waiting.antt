@@ -1,13 +1,12 @@
 -- The turns waited, as a sum of excesses.
-use mathlib.Core.Path.{_≡_, refl, sym, ap, _∙_}
+use mathlib.Core.Path.{_≡_, ap, _∙_}
 use mathlib.Core.Logic.{inl, inr}
 use mathlib.Core.Bool.{true, false, cond}
-use Prim.Native.Nat.{ℕ, zero, suc, _+_, _-_, _*_, _/_, _<_, _≤_}
+use Prim.Native.Nat.{ℕ, zero, suc, _+_, _-_, _*_, _≤_}
 use native.Mathlib.Omega.{arith}
 use lib.Dec.{ltb}
 use Rattle.std.proofs.shelf.Tests.{cases-lt, lt-ltb, le-ltb}
 use Rattle.levelling.specs.Sums.{sumTo}
-use Rattle.levelling.specs.Levels.{excess, turnsWaited}
 use Rattle.levelling.specs.Theorems.{Turns-Waited-Are-The-Sum-Of-The-Excesses}
 use Rattle.levelling.proofs.Sums.{sum-same, sum-add, sum-zero, sum-swap}
 

@@ -3,8 +3,8 @@ use mathlib.Core.Path.{_≡_}
 use mathlib.Core.Logic.{_≢_}
 use mathlib.Core.Bool.{true, false}
 use Prim.Native.Nat.{ℕ, _+_, _<_}
-use Rattle.levelling.specs.Sums.{Group, only, Inside, Alike, OneMore}
-use Rattle.levelling.specs.Halls.{Hall, Placing}
+use Rattle.levelling.specs.Sums.{Group, only, Inside, Alike, OneMore, OneMoved}
+use Rattle.levelling.specs.Halls.{Hall, Placing, Placement, height}
 use Rattle.levelling.specs.Groups.{SmallestTight}
 
 -- H′ is H with one more pump of the class t.
@@ -20,6 +20,25 @@ DonorOf {C} {R} H h t d = (G : Group) → SmallestTight H h (only d) G → Insid
 -- The rig d is a donor to the rig r: the smallest tight group around d holds r.
 abbrev pub DonorTo : {C R : ℕ} → Hall C R → (ℕ → ℕ) → ℕ → ℕ → Type 0
 DonorTo H h r d = (G : Group) → SmallestTight H h (only d) G → G r ≡ true
+
+-- y is a placement in H′, and its heights are those of x with one more on the rig g.
+pub record Raised {C R : ℕ} (x : Placing) (g : ℕ) (H′ : Hall C R) (y : Placing) : Type 0 where
+  pub placement : Placement H′ y
+  pub heights : OneMore R g (height C x) (height C y)
+
+-- y is a placement in H′, and its heights are those of x with one less on the rig d.
+pub record Lowered {C R : ℕ} (x : Placing) (d : ℕ) (H′ : Hall C R) (y : Placing) : Type 0 where
+  pub placement : Placement H′ y
+  pub heights : OneMore R d (height C y) (height C x)
+
+-- y is a placement in H, and its heights are those of x with one less on the rig d and one more on the rig r.
+pub record Pulled {C R : ℕ} (x : Placing) (d r : ℕ) (H : Hall C R) (y : Placing) : Type 0 where
+  pub placement : Placement H y
+  pub heights : OneMoved R d r (height C x) (height C y)
+
+-- Some placing is as P says, and every such one is as Q says.
+abbrev pub Can-And-Always : (Placing → Type 0) → (Placing → Type 0) → Type 0
+Can-And-Always P Q = ((y : Placing) × P y) × ((y : Placing) → P y → Q y)
 
 -- H′ is H without the rig r and the pumps on it, and x′ is what is left of the placement x.
 pub record LeftOut {C R : ℕ} (H : Hall C R) (x : Placing) (r : ℕ) (H′ : Hall C R) (x′ : Placing) : Type 0 where

@@ -2,7 +2,7 @@
 use mathlib.Core.Path.{_≡_}
 use mathlib.Core.Logic.{_≢_}
 use mathlib.Core.Bool.{true}
-use Prim.Native.Nat.{ℕ, _+_, _*_, _<_}
+use Prim.Native.Nat.{ℕ, _*_, _<_, _≤_}
 use Rattle.levelling.specs.Sums.{Group, only, Inside, inside, sumOver, size}
 use Rattle.levelling.specs.Halls.{Hall, Placing}
 
@@ -42,18 +42,19 @@ ClosedBackwards {C} {R} H placed G =
 abbrev pub ReachedBackwards : {C R : ℕ} → Hall C R → Placing → ℕ → Group → Type 0
 ReachedBackwards {C} {R} H placed p = Smallest R (ClosedBackwards H placed) (only p)
 
--- The density of a group with a rig in it: the pumps confined to it, divided by its rigs.
+-- A density: so many pumps divided by so many rigs.
 pub record Density : Type 0 where
   pub pumps : ℕ
   pub rigs : ℕ
 
+-- Of a group with a rig in it: the pumps confined to it, divided by its rigs.
 abbrev pub density : {C R : ℕ} → Hall C R → Group → Density
 density {C} {R} H G = record { pumps = confined H G; rigs = size R G }
 
--- Densities are compared by whole-number products.
-abbrev pub LessDense : Density → Density → Type 0
-LessDense a b = a .pumps * b .rigs < b .pumps * a .rigs
+-- So many pumps a rig.
+abbrev pub aRig : ℕ → Density
+aRig n = record { pumps = n; rigs = 1 }
 
--- The density that is greater by n pumps a rig.
-abbrev pub denserBy : ℕ → Density → Density
-denserBy n a = record { pumps = a .pumps + n * a .rigs; rigs = a .rigs }
+-- Densities are compared by whole-number products.
+abbrev pub NoDenser : Density → Density → Type 0
+NoDenser a b = a .pumps * b .rigs ≤ b .pumps * a .rigs

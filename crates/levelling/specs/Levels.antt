@@ -1,13 +1,15 @@
--- Level, and what is highest.
+-- Level, the excess, what is highest and lowest, and what the heights of two halls have in common.
 use mathlib.Core.Path.{_≡_}
-use mathlib.Core.Bool.{true, false}
+use mathlib.Core.Logic.{_≢_, _↔_}
+use mathlib.Core.Bool.{true, false, _&&_}
 use Prim.Native.Nat.{ℕ, _+_, _-_, _*_, _/_, _<_, _≤_}
 use lib.Dec.{eqb}
-use Rattle.levelling.specs.Sums.{Group, only, Inside, sumTo}
+use Rattle.levelling.specs.Sums.{Group, only, Inside, sumTo, size}
 use Rattle.levelling.specs.Halls.{Hall}
-use Rattle.levelling.specs.Groups.{Tight, SmallestTight}
+use Rattle.levelling.specs.Groups.{confined, Tight, SmallestTight}
 
--- Level but for the rigs of E: no other rig in the smallest tight group around any rig stands more than one lower than that rig.
+-- Level but for the rigs of E: no rig outside E in the smallest tight group around any rig stands more than one lower
+-- than that rig. (Where h are the heights of a placement, every rig has such a group.)
 abbrev pub LevelBut : {C R : ℕ} → Hall C R → (ℕ → ℕ) → Group → Type 0
 LevelBut {C} {R} H h E =
     (r j : ℕ) (G : Group) → r < R → j < R → SmallestTight H h (only r) G → G j ≡ true → E j ≡ false → h r ≤ h j + 1
@@ -31,7 +33,7 @@ pub record Cut {C R : ℕ} (H : Hall C R) (h : ℕ → ℕ) (E : Group) (k : ℕ
 abbrev pub excess : ℕ → (ℕ → ℕ) → ℕ → ℕ
 excess R h k = sumTo R (λ r. h r - k)
 
--- The turns that pumps wait: in a queue of n pumps the first waits 0 turns, the last n - 1.
+-- The turns that pumps wait: in a queue of n the first waits none and the last n - 1, in all half of n * (n - 1).
 abbrev pub turnsWaited : ℕ → (ℕ → ℕ) → ℕ
 turnsWaited R h = sumTo R (λ r. h r * (h r - 1) / 2)
 
@@ -62,3 +64,14 @@ pub record Highest (R : ℕ) (h : ℕ → ℕ) (P : ℕ → Type 0) (r : ℕ) : 
   pub within : r < R
   pub has : P r
   pub most : (j : ℕ) → j < R → P j → h j ≤ h r
+
+-- Every rig that a standing pump can use is in S, as when S is all rigs, or those in service.
+abbrev pub HoldsUsable : {C R : ℕ} → Hall C R → Group → Type 0
+HoldsUsable {C} {R} H S = (c : ℕ) → c < C → H .standing c ≢ 0 → Inside R (H .usable c) S
+
+-- Heights in two halls agree: on how many of the rigs in service have each height, on the greatest height and the
+-- smallest tight group around the rigs of that height, and on how many pumps are confined to it, as to any group.
+pub record Agree {C R : ℕ} (H H′ : Hall C R) (h h′ : ℕ → ℕ) : Type 0 where
+  pub counts : (S : Group) → HoldsUsable H S → (k : ℕ) → size R (λ r. S r && atHeight h k r) ≡ size R (λ r. S r && atHeight h′ k r)
+  pub bottleneck : (L : ℕ) (M : Group) → Bottleneck H h L M ↔ Bottleneck H′ h′ L M
+  pub confines : (G : Group) → confined H G ≡ confined H′ G

@@ -3,11 +3,11 @@ use mathlib.Core.Path.{_≡_}
 use mathlib.Core.Logic.{_≢_, _↔_}
 use mathlib.Core.Bool.{true, _&&_, _||_}
 use Prim.Native.Nat.{ℕ, _+_, _-_, _*_, _<_, _≤_}
-use Rattle.levelling.specs.Sums.{Group, only, Inside, Alike, sumTo, size, OneMore, OneMoved}
+use Rattle.levelling.specs.Sums.{Group, only, Alike, sumTo, size}
 use Rattle.levelling.specs.Halls.{Hall, pumps, Placing, Placement, height, SamePumps, Widened}
-use Rattle.levelling.specs.Groups.{confined, placedOn, Tight, SmallestTight, Closed, ReachedBackwards, density, LessDense, denserBy}
-use Rattle.levelling.specs.Levels.{LevelBut, Level, Cut, excess, turnsWaited, Greatest, atHeight, Bottleneck, Lowest, Highest}
-use Rattle.levelling.specs.Changes.{OnePumpMore, DonorOf, DonorTo, LeftOut, LetIn}
+use Rattle.levelling.specs.Groups.{confined, placedOn, Tight, SmallestTight, Closed, ReachedBackwards, density, aRig, NoDenser}
+use Rattle.levelling.specs.Levels.{LevelBut, Level, Cut, excess, turnsWaited, Greatest, Bottleneck, Agree, Lowest, Highest}
+use Rattle.levelling.specs.Changes.{OnePumpMore, DonorOf, DonorTo, Raised, Lowered, Pulled, Can-And-Always, LeftOut, LetIn}
 
 -- ---- groups
 
@@ -37,12 +37,13 @@ abbrev pub Tightness-Depends-Only-On-Usable-Sets-Standing-Counts-And-Heights : T
 Tightness-Depends-Only-On-Usable-Sets-Standing-Counts-And-Heights =
     (C R : ℕ) (H H′ : Hall C R) (h h′ : ℕ → ℕ) → SamePumps H H′ → Alike R h h′ →
     ((F G : Group) → Alike R F G → Tight H h F → Tight H′ h′ G) ×
-    ((S G : Group) → SmallestTight H h S G → SmallestTight H′ h′ S G) ×
+    ((S S′ F G : Group) → Alike R S S′ → Alike R F G → SmallestTight H h S F → SmallestTight H′ h′ S′ G) ×
     ((E : Group) → LevelBut H h E → LevelBut H′ h′ E)
 
 -- ---- level
 
--- At every k there is a tight group between the rigs higher than k and those of height k or more.
+-- At every k there is a tight group between the rigs higher than k and those of height k or more. (E aside: with noRig
+-- for E this is of level itself.)
 abbrev pub Level-Is-A-Cut-At-Every-Height : Type 0
 Level-Is-A-Cut-At-Every-Height =
     (C R : ℕ) (H : Hall C R) (x : Placing) → Placement H x →
@@ -69,23 +70,12 @@ The-Bottleneck-Confines-More-Than-One-Less-A-Rig =
     (C R : ℕ) (H : Hall C R) (x : Placing) → Placement H x → Level H (height C x) →
     pumps H ≢ 0 → (L : ℕ) (M : Group) → Bottleneck H (height C x) L M → (L - 1) * size R M < confined H M
 
--- So rounded up to whole pumps a rig, the bottleneck's density is the greatest of all.
-abbrev pub No-Group-Is-Denser-Than-The-Bottleneck-By-A-Whole-Pump-A-Rig : Type 0
-No-Group-Is-Denser-Than-The-Bottleneck-By-A-Whole-Pump-A-Rig =
+-- Whatever whole number of pumps a rig bounds the density of the bottleneck bounds that of every group.
+abbrev pub Rounded-Up-No-Group-Is-Denser-Than-The-Bottleneck : Type 0
+Rounded-Up-No-Group-Is-Denser-Than-The-Bottleneck =
     (C R : ℕ) (H : Hall C R) (x : Placing) → Placement H x → Level H (height C x) →
-    pumps H ≢ 0 → (L : ℕ) (M : Group) → Bottleneck H (height C x) L M →
-    (G : Group) → size R G ≢ 0 → LessDense (density H G) (denserBy 1 (density H M))
-
--- Every rig that a standing pump can use is in S, as when S is all rigs, or those in service.
-abbrev pub Serving : {C R : ℕ} → Hall C R → Group → Type 0
-Serving {C} {R} H S = (c : ℕ) → c < C → H .standing c ≢ 0 → Inside R (H .usable c) S
-
--- Heights in two halls agree: on how many rigs in service have each height, on the greatest height and the smallest
--- tight group around the rigs of that height, and on how many pumps are confined to it, as to any group.
-pub record Agree {C R : ℕ} (H H′ : Hall C R) (h h′ : ℕ → ℕ) : Type 0 where
-  pub counts : (S : Group) → Serving H S → (k : ℕ) → size R (λ r. S r && atHeight h k r) ≡ size R (λ r. S r && atHeight h′ k r)
-  pub bottleneck : (L : ℕ) (M : Group) → Bottleneck H h L M → Bottleneck H′ h′ L M
-  pub confines : (G : Group) → confined H G ≡ confined H′ G
+    (L : ℕ) (M : Group) → Bottleneck H (height C x) L M →
+    (n : ℕ) → NoDenser (density H M) (aRig n) → (G : Group) → NoDenser (density H G) (aRig n)
 
 -- The two may be placements in different halls, where the same pumps stand.
 abbrev pub Level-Placements-Of-The-Same-Pumps-Agree : Type 0
@@ -107,25 +97,25 @@ Turns-Waited-Are-The-Sum-Of-The-Excesses =
 
 -- ---- changes
 
--- The rig g rises, a lowest one of the smallest tight group around the usable set of t.
-abbrev pub Adding-To-A-Lowest-Rig-Of-The-Group-Keeps-Level : Type 0
-Adding-To-A-Lowest-Rig-Of-The-Group-Keeps-Level =
+-- The rig g rises, a lowest one of the smallest tight group A around the usable set of t.
+abbrev pub Adding-To-A-Lowest-Rig-Of-Its-Smallest-Tight-Group-Keeps-Level : Type 0
+Adding-To-A-Lowest-Rig-Of-Its-Smallest-Tight-Group-Keeps-Level =
     (C R : ℕ) (H H′ : Hall C R) (x : Placing) → Placement H x → Level H (height C x) →
     (t : ℕ) → OnePumpMore H t H′ → (A : Group) → SmallestTight H (height C x) (H .usable t) A →
     (g : ℕ) → Lowest R (height C x) (λ r. A r ≡ true) g →
-    (h : ℕ → ℕ) → OneMore R g (height C x) h → Level H′ h
+    Can-And-Always (Raised x g H′) (λ y. Level H′ (height C y))
 
 -- The rig d falls, a highest donor of t.
 abbrev pub Removing-From-A-Highest-Donor-Keeps-Level : Type 0
 Removing-From-A-Highest-Donor-Keeps-Level =
     (C R : ℕ) (H H′ : Hall C R) (x : Placing) → Placement H x → Level H (height C x) →
     (t : ℕ) → OnePumpMore H′ t H → (d : ℕ) → Highest R (height C x) (DonorOf H (height C x) t) d →
-    (h : ℕ → ℕ) → OneMore R d h (height C x) → Level H′ h
+    Can-And-Always (Lowered x d H′) (λ y. Level H′ (height C y))
 
 -- The donors of a class are the donors to each rig with a pump of it; and the donors to a rig are what it reaches
 -- backwards, which there is.
-abbrev pub The-Donors-Are-Told-In-Three-Ways : Type 0
-The-Donors-Are-Told-In-Three-Ways =
+abbrev pub The-Donors-Of-A-Class-Are-What-Any-Rig-With-Its-Pump-Reaches-Backwards : Type 0
+The-Donors-Of-A-Class-Are-What-Any-Rig-With-Its-Pump-Reaches-Backwards =
     (C R : ℕ) (H : Hall C R) (x : Placing) → Placement H x → (r : ℕ) → r < R →
     ((t d : ℕ) → t < C → x t r ≢ 0 → DonorOf H (height C x) t d ↔ DonorTo H (height C x) r d) ×
     ((G : Group) → ReachedBackwards H x r G → (d : ℕ) → d < R → DonorTo H (height C x) r d ↔ (G d ≡ true)) ×
@@ -136,20 +126,19 @@ Leaving-Out-A-Rig-And-Its-Pumps-Keeps-Level =
     (C R : ℕ) (H H′ : Hall C R) (x x′ : Placing) → Placement H x → Level H (height C x) →
     (r : ℕ) → LeftOut H x r H′ x′ → Placement H′ x′ × Level H′ (height C x′)
 
-abbrev pub A-Rig-Let-In-Is-The-Only-One-Too-Low : Type 0
-A-Rig-Let-In-Is-The-Only-One-Too-Low =
+abbrev pub Letting-In-A-Rig-Keeps-Level-But-For-It : Type 0
+Letting-In-A-Rig-Keeps-Level-But-For-It =
     (C R : ℕ) (H H′ : Hall C R) (x : Placing) → Placement H x → Level H (height C x) →
     (r : ℕ) → LetIn H r H′ → Placement H′ x × (height C x r ≡ 0) × LevelBut H′ (height C x) (only r)
 
--- One pump less on d, a highest donor to r that is more than one higher, and one more on r.
-abbrev pub A-Pull-From-A-Highest-Donor-Leaves-Only-That-Rig-Too-Low : Type 0
-A-Pull-From-A-Highest-Donor-Leaves-Only-That-Rig-Too-Low =
+-- A pull from the rig d, a highest donor to the rig r that is more than one higher.
+abbrev pub A-Pull-From-A-Highest-Donor-Keeps-Level-But-For-The-Rig : Type 0
+A-Pull-From-A-Highest-Donor-Keeps-Level-But-For-The-Rig =
     (C R : ℕ) (H : Hall C R) (x : Placing) → Placement H x → (r : ℕ) → r < R → LevelBut H (height C x) (only r) →
     (d : ℕ) → Highest R (height C x) (DonorTo H (height C x) r) d → height C x r + 1 < height C x d →
-    (h : ℕ → ℕ) → OneMoved R d r (height C x) h → LevelBut H h (only r)
+    Can-And-Always (Pulled x d r H) (λ y. LevelBut H (height C y) (only r))
 
-abbrev pub Level-When-No-Donor-Is-More-Than-One-Higher : Type 0
-Level-When-No-Donor-Is-More-Than-One-Higher =
-    (C R : ℕ) (H : Hall C R) (x : Placing) → Placement H x → (r : ℕ) → r < R → LevelBut H (height C x) (only r) →
-    ((d : ℕ) → d < R → DonorTo H (height C x) r d → height C x d ≤ height C x r + 1) →
-    Level H (height C x)
+abbrev pub Level-When-No-Donor-To-The-Rig-Is-More-Than-One-Higher : Type 0
+Level-When-No-Donor-To-The-Rig-Is-More-Than-One-Higher =
+    (C R : ℕ) (H : Hall C R) (h : ℕ → ℕ) (r : ℕ) → LevelBut H h (only r) →
+    ((d : ℕ) → d < R → DonorTo H h r d → h d ≤ h r + 1) → Level H h

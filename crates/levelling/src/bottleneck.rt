@@ -1,7 +1,7 @@
 //! Theorems on the bottleneck: the smallest tight group around the highest rigs.
 ghost use Rattle.levelling.specs.Theorems.{No-Group-Confines-More-Than-The-Greatest-Height-A-Rig};
 ghost use Rattle.levelling.specs.Theorems.{The-Bottleneck-Confines-More-Than-One-Less-A-Rig};
-ghost use Rattle.levelling.specs.Theorems.{No-Group-Is-Denser-Than-The-Bottleneck-By-A-Whole-Pump-A-Rig};
+ghost use Rattle.levelling.specs.Theorems.{Rounded-Up-No-Group-Is-Denser-Than-The-Bottleneck};
 ghost use Rattle.levelling.specs.Theorems.{Level-Placements-Of-The-Same-Pumps-Agree};
 
 /// With L the greatest height, a group of n rigs confines at most L × n pumps.
@@ -14,9 +14,9 @@ pub fn the_bottleneck_confines_more_than_one_less_a_rig()
     ensures { λ _. ⌜ The-Bottleneck-Confines-More-Than-One-Less-A-Rig ⌝ }
 {}
 
-/// No group has a density that exceeds the density of the bottleneck by one pump a rig or more.
-pub fn no_group_is_denser_than_the_bottleneck_by_a_whole_pump_a_rig()
-    ensures { λ _. ⌜ No-Group-Is-Denser-Than-The-Bottleneck-By-A-Whole-Pump-A-Rig ⌝ }
+/// If the bottleneck of a level placement has a density of at most n pumps a rig, so has every group.
+pub fn rounded_up_no_group_is_denser_than_the_bottleneck()
+    ensures { λ _. ⌜ Rounded-Up-No-Group-Is-Denser-Than-The-Bottleneck ⌝ }
 {}
 
 /// Level placements of the same pumps have equally many rigs at each height, and the same bottleneck.

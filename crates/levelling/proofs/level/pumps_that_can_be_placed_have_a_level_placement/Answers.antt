@@ -1,4 +1,4 @@
-use Rattle.levelling.proofs.Chaining.{level-exists}
+use Rattle.levelling.proofs.Existing.{level-exists}
 use Rattle.levelling.proofs.level.pumps_that_can_be_placed_have_a_level_placement.Needs as need
 
 pub returns : need.returns

@@ -1,5 +1,0 @@
-use Rattle.levelling.proofs.Moving.{adding}
-use Rattle.levelling.proofs.changes.adding_to_a_lowest_rig_of_the_group_keeps_level.Needs as need
-
-pub returns : need.returns
-returns c = adding

@@ -1,5 +1,0 @@
-use Rattle.levelling.proofs.Moving.{pulled}
-use Rattle.levelling.proofs.changes.level_when_no_donor_is_more_than_one_higher.Needs as need
-
-pub returns : need.returns
-returns c = pulled

@@ -42,8 +42,8 @@ Tightness-Depends-Only-On-Usable-Sets-Standing-Counts-And-Heights =
 
 -- ---- level
 
--- At every k there is a tight group between the rigs higher than k and those of height k or more. (E aside: with noRig
--- for E this is of level itself.)
+-- At every k there is a tight group between the rigs higher than k and those of height k or more, the rigs of E aside;
+-- where E has no rig, this is of level itself.
 abbrev pub Level-Is-A-Cut-At-Every-Height : Type 0
 Level-Is-A-Cut-At-Every-Height =
     (C R : ℕ) (H : Hall C R) (x : Placing) → Placement H x →

@@ -14,8 +14,8 @@ use Rattle.levelling.specs.Groups.{confined, placedOn, Tight, SmallestTight}
 use Rattle.levelling.specs.Levels.{Level, noRig, Cut, excess, Greatest, atHeight, Bottleneck, HoldsUsable}
 use Rattle.levelling.specs.Theorems.{No-Group-Confines-More-Than-The-Greatest-Height-A-Rig, The-Bottleneck-Confines-More-Than-One-Less-A-Rig, Rounded-Up-No-Group-Is-Denser-Than-The-Bottleneck, Level-Placements-Of-The-Same-Pumps-Agree}
 use Rattle.levelling.proofs.Sums.{sum-le, sum-same, sum-add, sum-zero, sum-even, sum-less, sum-term, sum-some, over-constant, over-le}
-use Rattle.levelling.proofs.Tightness.{confined-at-most, closed-tight, confined-same, placement-widened, same-widened, same-flip, smallest-same, level-same}
-use Rattle.levelling.proofs.Reaching.{stands, smallest-around}
+use Rattle.levelling.proofs.Tightness.{stands, confined-at-most, closed-tight, confined-same, placement-widened, same-widened, same-flip, smallest-same, level-same}
+use Rattle.levelling.proofs.Reaching.{smallest-around}
 use Rattle.levelling.proofs.Cutting.{higher, over, over-smallest, level-cut, level-least}
 
 -- the rigs of the greatest height are those higher than one less
@@ -236,7 +236,7 @@ module _ {C R : ℕ} (H H′ : Hall C R) (x y : Placing) (same : SamePumps H H�
     (lx : Level H (height C x)) (ly : Level H′ (height C y)) where
   -- y is a placement of the same pumps in H, and level there
   there : Placement H y
-  there = placement-widened H′ H y (same-widened H′ H (same-flip H H′ same)) Q
+  there = placement-widened H′ H y y (same-widened H′ H (same-flip H H′ same)) (λ c l i b. refl) Q
 
   level-there : Level H (height C y)
   level-there = level-same H′ H (height C y) (height C y) (same-flip H H′ same) (λ r l. refl) noRig ly

@@ -11,8 +11,9 @@ use Rattle.levelling.specs.Halls.{Hall, Placing, Placement, height}
 use Rattle.levelling.specs.Groups.{SmallestTight}
 use Rattle.levelling.specs.Changes.{OnePumpMore, DonorOf, DonorTo, Raised, Lowered, Pulled}
 use Rattle.levelling.proofs.Sums.{sum-same, sum-zero, sum-add, sum-spot, with-one}
+use Rattle.levelling.proofs.Tightness.{stands}
 use Rattle.levelling.proofs.Growing.{Out, Grown, done, adds}
-use Rattle.levelling.proofs.Reaching.{steps, step-by, around, around-smallest, around-grown, around-from, stands, given, donor-of-to}
+use Rattle.levelling.proofs.Reaching.{steps, step-by, around, around-smallest, around-grown, around-from, given, donor-of-to}
 
 -- ---- z′ is z with one more pump of the class c on the rig b
 abbrev PumpMore : ℕ → ℕ → Placing → Placing → Type 0

@@ -91,4 +91,4 @@ level-least C R H x y P Q level k =
     cut-least H (height C x) (height C y) k (level-cut H x P k noRig level) (confined-at-most H y Q)
 
 pub wider-least : More-Usable-Rigs-Never-Mean-More-Excess
-wider-least C R H H′ x y wide P Q level k = level-least C R H′ y x Q (placement-widened H H′ x wide P) level k
+wider-least C R H H′ x y wide P Q level k = level-least C R H′ y x Q (placement-widened H H′ x x wide (λ c l i b. refl) P) level k

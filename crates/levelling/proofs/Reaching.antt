@@ -11,13 +11,9 @@ use Rattle.levelling.specs.Halls.{Hall, Placing, Placement, height}
 use Rattle.levelling.specs.Groups.{Tight, Smallest, SmallestTight, Closed, ClosedBackwards, ReachedBackwards}
 use Rattle.levelling.specs.Changes.{DonorOf, DonorTo}
 use Rattle.levelling.specs.Theorems.{Any-Rigs-Have-One-Smallest-Tight-Group, The-Donors-Of-A-Class-Are-What-Any-Rig-With-Its-Pump-Reaches-Backwards}
-use Rattle.levelling.proofs.Sums.{sum-term, anyTo, any-decides, is-false}
+use Rattle.levelling.proofs.Sums.{anyTo, any-decides, is-false}
 use Rattle.levelling.proofs.Tightness.{tight-closed, closed-tight}
 use Rattle.levelling.proofs.Growing.{Steps, ClosedBy, Grown, smallest-as, closure}
-
--- a class with a pump on a rig stands
-pub stands : {C R : ℕ} (H : Hall C R) (x : Placing) → Placement H x → (c r : ℕ) → c < C → r < R → x c r ≢ 0 → H .standing c ≢ 0
-stands {C} {R} H x P c r lc lr some z = some (omega (arith, sum-term R (x c) r lr, P .each-once c lc))
 
 -- smallest groups around the same are the same
 pub smallest-one : (n : ℕ) (P : Group → Type 0) (S F G : Group) → Smallest n P S F → Smallest n P S G → Alike n F G

@@ -119,13 +119,18 @@ pub same-widened : {C R : ℕ} (H H′ : Hall C R) → SamePumps H H′ → Wide
 same-widened H H′ same =
     record { standing = same .standing; usable = λ c r lc lr d u. sym (same .usable c lc d r lr) ∙ u }
 
+-- a class with a pump on a rig stands
+pub stands : {C R : ℕ} (H : Hall C R) (x : Placing) → Placement H x → (c r : ℕ) → c < C → r < R → x c r ≢ 0 → H .standing c ≢ 0
+stands {C} {R} H x P c r lc lr some z = some (omega (arith, sum-term R (x c) r lr, P .each-once c lc))
+
 -- a placement stays one where each standing pump can use no fewer rigs
-pub placement-widened : {C R : ℕ} (H H′ : Hall C R) (x : Placing) → Widened H H′ → Placement H x → Placement H′ x
-placement-widened {C} {R} H H′ x wide P = record {
-  on-usable = λ c r lc lr d. wide .usable c r lc lr
-      (λ z. d (let here = sum-term R (x c) r lr in omega (arith, P .each-once c lc)))
-      (P .on-usable c r lc lr d);
-  each-once = λ c lc. P .each-once c lc ∙ wide .standing c lc;
+pub placement-widened : {C R : ℕ} (H H′ : Hall C R) (x x′ : Placing) → Widened H H′ → ((c : ℕ) → c < C → Alike R (x c) (x′ c)) →
+    Placement H x → Placement H′ x′
+placement-widened {C} {R} H H′ x x′ wide same P = record {
+  on-usable = λ c r lc lr d.
+      let some : x c r ≢ 0 = λ z. d (sym (same c lc r lr) ∙ z) in
+      wide .usable c r lc lr (stands H x P c r lc lr some) (P .on-usable c r lc lr some);
+  each-once = λ c lc. sym (sum-same R _ _ (same c lc)) ∙ P .each-once c lc ∙ wide .standing c lc;
 }
 
 pub confined-same : {C R : ℕ} (H H′ : Hall C R) (F G : Group) → SamePumps H H′ → Alike R F G → confined H F ≡ confined H′ G

@@ -8,4 +8,5 @@ pub mod Chaining
 pub mod Moving
 pub mod Serving
 pub mod Existing
-pub mod Waiting
+pub mod Framing
+pub mod Costing

@@ -5,9 +5,9 @@ use mathlib.Core.Bool.{Bool, true, false, not, cond, _||_}
 use Prim.Native.Nat.{ℕ, zero, suc, _+_, _*_, _<_, _≤_}
 use native.Mathlib.Omega.{arith}
 use Rattle.std.specs.Orderings.{Decides}
-use Rattle.std.proofs.shelf.Tests.{cases-eq, cases-bool, false≢true}
+use Rattle.std.proofs.shelf.Tests.{cases-eq, cases-bool, false≢true, cond-true, cond-false, lt-ltb, le-ltb}
 use Rattle.std.proofs.shelf.Ways.{decides-below-and, decides-below-or, not-from-decides}
-use lib.Dec.{eqb}
+use lib.Dec.{eqb, ltb}
 use Rattle.levelling.specs.Sums.{Group, Inside, inside, Alike, sumTo, sumOver, size, unit, OneMore, OneMoved}
 
 pub cases-last : (i n : ℕ) → i < suc n → (i ≡ n) ⊎ (i < n)
@@ -76,6 +76,27 @@ sum-spot (suc n) j m l =
       | inl e ↦ let rest = sum-zero n (λ i. cond (eqb i j) m 0) (λ i b. grind arith) in grind arith
       | inr b ↦ let rest = sum-spot n j m b in grind arith
     ]
+
+-- a sum with more terms, all 0
+pub sum-longer : (n m : ℕ) (f g : ℕ → ℕ) → n ≤ m → Alike n f g → ((i : ℕ) → n ≤ i → i < m → g i ≡ 0) → sumTo n f ≡ sumTo m g
+sum-longer n zero f g le same none =
+    let e : n ≡ 0 = omega arith in
+    sum-zero n f (λ i l. let bad : ⊥ = omega arith in absurd bad)
+sum-longer n (suc m) f g le same none =
+    elim (cases-eq n (suc m)) [
+      | inl e ↦ rw e (sum-same (suc m) f g (λ i l. same i (omega arith)))
+      | inr d ↦ omega (arith, sum-longer n m f g (omega arith) same (λ i a b. none i a (omega arith)), none m (omega arith) (omega arith))
+    ]
+
+-- the first n terms
+pub sum-front : (m n : ℕ) (f : ℕ → ℕ) → n ≤ m → sumTo m (λ i. cond (ltb i n) (f i) 0) ≡ sumTo n f
+sum-front m n f l =
+    sym (sum-longer n m f (λ i. cond (ltb i n) (f i) 0) l
+    (λ i b. sym (cond-true _ (f i) 0 (lt-ltb i n b))) (λ i a b. cond-false _ (f i) 0 (le-ltb i n a)))
+
+pub sum-scale : (n m : ℕ) (f : ℕ → ℕ) → sumTo n (λ i. m * f i) ≡ m * sumTo n f
+sum-scale zero m f = omega arith
+sum-scale (suc n) m f = omega (arith, sum-scale n m f)
 
 -- ---- sums over a group
 over-at : (b : Bool) (u v : ℕ) → cond b (u + v) 0 ≡ cond b u 0 + cond b v 0

@@ -1,8 +1,8 @@
 -- A hall of pumps and rigs, and the placements of its pumps.
 use mathlib.Core.Path.{_≡_}
 use mathlib.Core.Logic.{_≢_}
-use mathlib.Core.Bool.{true}
-use Prim.Native.Nat.{ℕ, _<_}
+use mathlib.Core.Bool.{true, false}
+use Prim.Native.Nat.{ℕ, _<_, _≤_}
 use Rattle.levelling.specs.Sums.{Group, Alike, sumTo}
 
 -- Pumps of the classes c < C and rigs r < R: the rigs that each class can use, and how many pumps of each class
@@ -37,3 +37,12 @@ pub record SamePumps {C R : ℕ} (H H′ : Hall C R) : Type 0 where
 pub record Widened {C R : ℕ} (H H′ : Hall C R) : Type 0 where
   pub standing : Alike C (H .standing) (H′ .standing)
   pub usable : (c r : ℕ) → c < C → r < R → H .standing c ≢ 0 → H .usable c r ≡ true → H′ .usable c r ≡ true
+
+-- H′ is H in a larger frame: with more classes, of which no pump stands, and more rigs, which no standing pump can use.
+pub record Framed {C R C′ R′ : ℕ} (H : Hall C R) (H′ : Hall C′ R′) : Type 0 where
+  pub classes : C ≤ C′
+  pub rigs : R ≤ R′
+  pub standing : Alike C (H .standing) (H′ .standing)
+  pub no-pump : (c : ℕ) → C ≤ c → c < C′ → H′ .standing c ≡ 0
+  pub usable : (c : ℕ) → c < C → H .standing c ≢ 0 → Alike R (H .usable c) (H′ .usable c)
+  pub no-use : (c r : ℕ) → c < C → H .standing c ≢ 0 → R ≤ r → r < R′ → H′ .usable c r ≡ false

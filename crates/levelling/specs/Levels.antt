@@ -4,8 +4,8 @@ use mathlib.Core.Logic.{_≢_, _↔_}
 use mathlib.Core.Bool.{true, false, _&&_}
 use Prim.Native.Nat.{ℕ, _+_, _-_, _*_, _/_, _<_, _≤_}
 use lib.Dec.{eqb}
-use Rattle.levelling.specs.Sums.{Group, only, Inside, sumTo, size}
-use Rattle.levelling.specs.Halls.{Hall}
+use Rattle.levelling.specs.Sums.{Group, only, Inside, Alike, sumTo, size}
+use Rattle.levelling.specs.Halls.{Hall, Placing, Placement, height}
 use Rattle.levelling.specs.Groups.{confined, Tight, SmallestTight}
 
 -- Level but for the rigs of E: no rig outside E in the smallest tight group around any rig stands more than one lower
@@ -36,6 +36,10 @@ excess R h k = sumTo R (λ r. h r - k)
 -- The turns that pumps wait: in a queue of n the first waits none and the last n - 1, in all half of n * (n - 1).
 abbrev pub turnsWaited : ℕ → (ℕ → ℕ) → ℕ
 turnsWaited R h = sumTo R (λ r. h r * (h r - 1) / 2)
+
+-- A cost of a queue of n pumps to which each further pump adds no less than the one before it.
+abbrev pub Convex : (ℕ → ℕ) → Type 0
+Convex cost = (n : ℕ) → cost (n + 1) + cost (n + 1) ≤ cost n + cost (n + 2)
 
 -- L is the greatest height.
 pub record Greatest (R : ℕ) (h : ℕ → ℕ) (L : ℕ) : Type 0 where
@@ -75,3 +79,12 @@ pub record Agree {C R : ℕ} (H H′ : Hall C R) (h h′ : ℕ → ℕ) : Type 0
   pub counts : (S : Group) → HoldsUsable H S → (k : ℕ) → size R (λ r. S r && atHeight h k r) ≡ size R (λ r. S r && atHeight h′ k r)
   pub bottleneck : (L : ℕ) (M : Group) → Bottleneck H h L M ↔ Bottleneck H′ h′ L M
   pub confines : (G : Group) → confined H G ≡ confined H′ G
+
+-- The placement x in the larger frame of H′ is one in H too, with the same heights, and none on the rigs that H has not;
+-- as many pumps are confined to each group, and it is level in both or in neither.
+pub record SameInBoth {C R C′ R′ : ℕ} (H : Hall C R) (H′ : Hall C′ R′) (x : Placing) : Type 0 where
+  pub placement : Placement H x
+  pub heights : Alike R (height C x) (height C′ x)
+  pub no-height : (r : ℕ) → R ≤ r → r < R′ → height C′ x r ≡ 0
+  pub confines : (G : Group) → confined H G ≡ confined H′ G
+  pub level : Level H (height C x) ↔ Level H′ (height C′ x)

@@ -4,9 +4,9 @@ use mathlib.Core.Logic.{_≢_, _↔_}
 use mathlib.Core.Bool.{true, _&&_, _||_}
 use Prim.Native.Nat.{ℕ, _+_, _-_, _*_, _<_, _≤_}
 use Rattle.levelling.specs.Sums.{Group, only, Alike, sumTo, size}
-use Rattle.levelling.specs.Halls.{Hall, pumps, Placing, Placement, height, SamePumps, Widened}
+use Rattle.levelling.specs.Halls.{Hall, pumps, Placing, Placement, height, SamePumps, Widened, Framed}
 use Rattle.levelling.specs.Groups.{confined, placedOn, Tight, SmallestTight, Closed, ReachedBackwards, density, aRig, NoDenser}
-use Rattle.levelling.specs.Levels.{LevelBut, Level, Cut, excess, turnsWaited, Greatest, Bottleneck, Agree, Lowest, Highest}
+use Rattle.levelling.specs.Levels.{LevelBut, Level, Cut, excess, turnsWaited, Convex, Greatest, Bottleneck, Agree, SameInBoth, Lowest, Highest}
 use Rattle.levelling.specs.Changes.{OnePumpMore, DonorOf, DonorTo, Raised, Lowered, Pulled, Can-And-Always, LeftOut, LetIn}
 
 -- ---- groups
@@ -60,6 +60,12 @@ A-Level-Placement-Has-The-Least-Excess =
     (C R : ℕ) (H : Hall C R) (x y : Placing) → Placement H x → Placement H y → Level H (height C x) →
     (k : ℕ) → excess R (height C x) k ≤ excess R (height C y) k
 
+-- As the turns waited, or the squares of the heights: summed over the rigs, no placement of the same pumps costs less.
+abbrev pub A-Level-Placement-Is-Best-For-Every-Convex-Cost : Type 0
+A-Level-Placement-Is-Best-For-Every-Convex-Cost =
+    (C R : ℕ) (H : Hall C R) (x y : Placing) → Placement H x → Placement H y → Level H (height C x) →
+    (cost : ℕ → ℕ) → Convex cost → sumTo R (λ r. cost (height C x r)) ≤ sumTo R (λ r. cost (height C y r))
+
 abbrev pub No-Group-Confines-More-Than-The-Greatest-Height-A-Rig : Type 0
 No-Group-Confines-More-Than-The-Greatest-Height-A-Rig =
     (C R : ℕ) (H : Hall C R) (x : Placing) → Placement H x → (L : ℕ) → Greatest R (height C x) L →
@@ -82,6 +88,13 @@ abbrev pub Level-Placements-Of-The-Same-Pumps-Agree : Type 0
 Level-Placements-Of-The-Same-Pumps-Agree =
     (C R : ℕ) (H H′ : Hall C R) (x y : Placing) → SamePumps H H′ → Placement H x → Placement H′ y →
     Level H (height C x) → Level H′ (height C y) → Agree H H′ (height C x) (height C y)
+
+-- So halls of different sizes can be compared in one frame. Every placement in H is one of those in H′.
+abbrev pub A-Larger-Frame-Changes-Nothing : Type 0
+A-Larger-Frame-Changes-Nothing =
+    (C R C′ R′ : ℕ) (H : Hall C R) (H′ : Hall C′ R′) → Framed H H′ →
+    ((x : Placing) → Placement H x → (y : Placing) × Placement H′ y × ((c : ℕ) → c < C → Alike R (x c) (y c))) ×
+    ((y : Placing) → Placement H′ y → SameInBoth H H′ y)
 
 -- x need not be level; where it is, its excess is the least in H.
 abbrev pub More-Usable-Rigs-Never-Mean-More-Excess : Type 0

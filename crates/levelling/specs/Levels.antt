@@ -73,8 +73,9 @@ pub record Highest (R : ℕ) (h : ℕ → ℕ) (P : ℕ → Type 0) (r : ℕ) : 
 abbrev pub HoldsUsable : {C R : ℕ} → Hall C R → Group → Type 0
 HoldsUsable {C} {R} H S = (c : ℕ) → c < C → H .standing c ≢ 0 → Inside R (H .usable c) S
 
--- Heights in two halls agree: on how many of the rigs in service have each height, on the greatest height and the
--- smallest tight group around the rigs of that height, and on how many pumps are confined to it, as to any group.
+-- Heights in two halls agree: on how many rigs have each height, among all rigs or any that hold the usable ones; on the
+-- greatest height and the smallest tight group around the rigs of that height; and on how many pumps are confined to
+-- it, as to any group.
 pub record Agree {C R : ℕ} (H H′ : Hall C R) (h h′ : ℕ → ℕ) : Type 0 where
   pub counts : (S : Group) → HoldsUsable H S → (k : ℕ) → size R (λ r. S r && atHeight h k r) ≡ size R (λ r. S r && atHeight h′ k r)
   pub bottleneck : (L : ℕ) (M : Group) → Bottleneck H h L M ↔ Bottleneck H′ h′ L M

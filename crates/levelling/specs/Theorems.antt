@@ -60,7 +60,7 @@ A-Level-Placement-Has-The-Least-Excess =
     (C R : ℕ) (H : Hall C R) (x y : Placing) → Placement H x → Placement H y → Level H (height C x) →
     (k : ℕ) → excess R (height C x) k ≤ excess R (height C y) k
 
--- As the turns waited, or the squares of the heights: summed over the rigs, no placement of the same pumps costs less.
+-- Summed over the rigs, no placement of the same pumps costs less.
 abbrev pub A-Level-Placement-Is-Best-For-Every-Convex-Cost : Type 0
 A-Level-Placement-Is-Best-For-Every-Convex-Cost =
     (C R : ℕ) (H : Hall C R) (x y : Placing) → Placement H x → Placement H y → Level H (height C x) →
@@ -76,7 +76,7 @@ The-Bottleneck-Confines-More-Than-One-Less-A-Rig =
     (C R : ℕ) (H : Hall C R) (x : Placing) → Placement H x → Level H (height C x) →
     pumps H ≢ 0 → (L : ℕ) (M : Group) → Bottleneck H (height C x) L M → (L - 1) * size R M < confined H M
 
--- Whatever whole number of pumps a rig bounds the density of the bottleneck bounds that of every group.
+-- If n pumps a rig, n a whole number, bounds the density of the bottleneck, it bounds that of every group.
 abbrev pub Rounded-Up-No-Group-Is-Denser-Than-The-Bottleneck : Type 0
 Rounded-Up-No-Group-Is-Denser-Than-The-Bottleneck =
     (C R : ℕ) (H : Hall C R) (x : Placing) → Placement H x → Level H (height C x) →
@@ -89,7 +89,8 @@ Level-Placements-Of-The-Same-Pumps-Agree =
     (C R : ℕ) (H H′ : Hall C R) (x y : Placing) → SamePumps H H′ → Placement H x → Placement H′ y →
     Level H (height C x) → Level H′ (height C y) → Agree H H′ (height C x) (height C y)
 
--- So halls of different sizes can be compared in one frame. Every placement in H is one of those in H′.
+-- So halls of different sizes can be compared in one frame. Every placement in H is, on the classes and rigs of H, one
+-- in H′; and every one in H′ is the same in both.
 abbrev pub A-Larger-Frame-Changes-Nothing : Type 0
 A-Larger-Frame-Changes-Nothing =
     (C R C′ R′ : ℕ) (H : Hall C R) (H′ : Hall C′ R′) → Framed H H′ →
@@ -144,7 +145,7 @@ Letting-In-A-Rig-Keeps-Level-But-For-It =
     (C R : ℕ) (H H′ : Hall C R) (x : Placing) → Placement H x → Level H (height C x) →
     (r : ℕ) → LetIn H r H′ → Placement H′ x × (height C x r ≡ 0) × LevelBut H′ (height C x) (only r)
 
--- A pull from the rig d, a highest donor to the rig r that is more than one higher.
+-- A pull to the rig r from the rig d: d is a highest donor to r, and more than one higher than r.
 abbrev pub A-Pull-From-A-Highest-Donor-Keeps-Level-But-For-The-Rig : Type 0
 A-Pull-From-A-Highest-Donor-Keeps-Level-But-For-The-Rig =
     (C R : ℕ) (H : Hall C R) (x : Placing) → Placement H x → (r : ℕ) → r < R → LevelBut H (height C x) (only r) →

@@ -14,7 +14,8 @@ pub fn the_bottleneck_confines_more_than_one_less_a_rig()
     ensures { λ _. ⌜ The-Bottleneck-Confines-More-Than-One-Less-A-Rig ⌝ }
 {}
 
-/// If the bottleneck of a level placement has a density of at most n pumps a rig, so has every group.
+/// If the bottleneck of a level placement has a density of at most n pumps a rig, n a whole number, so has every
+/// group.
 pub fn rounded_up_no_group_is_denser_than_the_bottleneck()
     ensures { λ _. ⌜ Rounded-Up-No-Group-Is-Denser-Than-The-Bottleneck ⌝ }
 {}

@@ -7,7 +7,8 @@ ghost use Rattle.levelling.specs.Theorems.{Letting-In-A-Rig-Keeps-Level-But-Fo
 ghost use Rattle.levelling.specs.Theorems.{A-Pull-From-A-Highest-Donor-Keeps-Level-But-For-The-Rig};
 ghost use Rattle.levelling.specs.Theorems.{Level-When-No-Donor-To-The-Rig-Is-More-Than-One-Higher};
 
-/// A pump can come so that only a lowest rig of the smallest tight group around its usable set rises, by one; then the placement is level.
+/// A pump can come so that only a lowest rig of the smallest tight group around its usable set rises, by one; then
+/// the placement is level.
 pub fn adding_to_a_lowest_rig_of_its_smallest_tight_group_keeps_level()
     ensures { λ _. ⌜ Adding-To-A-Lowest-Rig-Of-Its-Smallest-Tight-Group-Keeps-Level ⌝ }
 {}
@@ -17,7 +18,8 @@ pub fn removing_from_a_highest_donor_keeps_level()
     ensures { λ _. ⌜ Removing-From-A-Highest-Donor-Keeps-Level ⌝ }
 {}
 
-/// The donors of a class are the donors to any rig that has a pump of it, and these are what that rig reaches backwards.
+/// The donors of a class are the donors to any rig that has a pump of it, and these are what that rig reaches
+/// backwards.
 pub fn the_donors_of_a_class_are_what_any_rig_with_its_pump_reaches_backwards()
     ensures { λ _. ⌜ The-Donors-Of-A-Class-Are-What-Any-Rig-With-Its-Pump-Reaches-Backwards ⌝ }
 {}
@@ -32,7 +34,8 @@ pub fn letting_in_a_rig_keeps_level_but_for_it()
     ensures { λ _. ⌜ Letting-In-A-Rig-Keeps-Level-But-For-It ⌝ }
 {}
 
-/// Pumps can move so that only a highest donor to the rig falls, by one, and the rig rises by one; still level but for it.
+/// If a highest donor to the rig is more than one higher, pumps can move so that it falls by one and the rig rises
+/// by one, and no other does; then still level but for the rig.
 pub fn a_pull_from_a_highest_donor_keeps_level_but_for_the_rig()
     ensures { λ _. ⌜ A-Pull-From-A-Highest-Donor-Keeps-Level-But-For-The-Rig ⌝ }
 {}

@@ -22,12 +22,13 @@ pub fn a_level_placement_has_the_least_excess()
     ensures { λ _. ⌜ A-Level-Placement-Has-The-Least-Excess ⌝ }
 {}
 
-/// No placement of the same pumps costs less, whatever convex cost a queue has by its height.
+/// No placement of the same pumps costs less than a level one, whatever convex cost a queue has by its height.
 pub fn a_level_placement_is_best_for_every_convex_cost()
     ensures { λ _. ⌜ A-Level-Placement-Is-Best-For-Every-Convex-Cost ⌝ }
 {}
 
-/// A hall is the same hall if it is given more classes, of which no pump stands, and more rigs, which no standing pump can use.
+/// A hall is the same hall if it is given more classes, of which no pump stands, and more rigs, which no standing
+/// pump can use.
 pub fn a_larger_frame_changes_nothing()
     ensures { λ _. ⌜ A-Larger-Frame-Changes-Nothing ⌝ }
 {}

@@ -13,10 +13,10 @@ use Rattle.levelling.specs.Halls.{Hall, pumps, Placing, Placement, height, Sam
 use Rattle.levelling.specs.Groups.{confined, placedOn, Tight, SmallestTight}
 use Rattle.levelling.specs.Levels.{Level, noRig, Cut, excess, Greatest, atHeight, Bottleneck, HoldsUsable}
 use Rattle.levelling.specs.Theorems.{No-Group-Confines-More-Than-The-Greatest-Height-A-Rig, The-Bottleneck-Confines-More-Than-One-Less-A-Rig, Rounded-Up-No-Group-Is-Denser-Than-The-Bottleneck, Level-Placements-Of-The-Same-Pumps-Agree}
-use Rattle.levelling.proofs.Sums.{sum-le, sum-same, sum-add, sum-zero, sum-even, sum-less, sum-term, sum-some, over-constant, over-le}
-use Rattle.levelling.proofs.Tightness.{stands, confined-at-most, closed-tight, confined-same, placement-widened, same-widened, same-flip, smallest-same, level-same}
+use Rattle.levelling.proofs.Sums.{sum-same, sum-add, sum-zero, sum-even, sum-less, sum-term, sum-some, above-next, over-constant, over-le}
+use Rattle.levelling.proofs.Tightness.{stands, confined-at-most, closed-tight, confined-framed, same-framed, placement-widened, same-widened, same-flip, smallest-same, level-same}
 use Rattle.levelling.proofs.Reaching.{smallest-around}
-use Rattle.levelling.proofs.Cutting.{higher, over, over-smallest, level-cut, level-least}
+use Rattle.levelling.proofs.Cutting.{higher, over, over-smallest, level-cut, level-least, count-most, part-most, part-excess, count-even}
 
 -- the rigs of the greatest height are those higher than one less
 module _ (R : ℕ) (h : ℕ → ℕ) (L : ℕ) (top : Greatest R h L) (pos : L ≢ 0) where
@@ -100,11 +100,8 @@ rounded-up C R H x P level L M b n most G =
     ]
 
 -- ---- how many rigs have each height
-count-higher : (n k : ℕ) → n - k ≡ (n - (k + 1)) + cond (ltb k n) 1 0
-count-higher n k = grind arith
-
 excess-next : (R : ℕ) (h : ℕ → ℕ) (k : ℕ) → excess R h k ≡ excess R h (k + 1) + size R (higher h k)
-excess-next R h k = sum-same R _ _ (λ r l. count-higher (h r) k) ∙ sum-add R (λ r. h r - (k + 1)) (λ r. cond (higher h k r) 1 0)
+excess-next R h k = sum-same R _ _ (λ r l. above-next (h r) k) ∙ sum-add R (λ r. h r - (k + 1)) (λ r. cond (higher h k r) 1 0)
 
 count-at : (b : Bool) (n k : ℕ) → (b ≡ false → n ≡ 0) → k ≢ 0 →
     cond (ltb (k - 1) n) 1 0 ≡ cond (ltb k n) 1 0 + cond (b && eqb n k) 1 0
@@ -169,32 +166,16 @@ module _ {C R : ℕ} (H : Hall C R) (x y : Placing) (P : Placement H x) (Q : Pla
   shared : (k : ℕ) (G : Group) → SmallestTight H (height C x) (higher (height C x) k) G →
       Tight H (height C y) G × ((r : ℕ) → r < R → k < height C y r → G r ≡ true)
   shared k G a =
-      let flat = sumOver R G (λ r. k) in
-      let high = sumOver R G (λ r. height C y r - k) in
-      let mine : placedOn R (height C x) G ≡ excess R (height C x) k + flat =
-      sum-same R _ _ (λ r l. mine-at (G r) (height C x r) (λ b. a .holds r l (lt-ltb _ _ b)) (within r l)) ∙
-      sum-add R (λ r. height C x r - k) (λ r. cond (G r) k 0) in
-      let theirs : placedOn R (height C y) G ≤ high + flat =
-      rw (← sum-add R (λ r. cond (G r) (height C y r - k) 0) (λ r. cond (G r) k 0)) (sum-le R _ _ (λ r l. theirs-at (G r) (height C y r))) in
-      let part : high ≤ excess R (height C y) k = sum-le R _ _ (λ r l. part-at (G r) (height C y r)) in
+      let within = cut-within H (height C x) k G (level-cut H x P k noRig lx) a in
+      let mine = count-even R (height C x) k G (λ r l b. a .holds r l (lt-ltb _ _ b)) within in
+      let theirs = count-most R (height C y) k G in
+      let part = part-excess R (height C y) k G in
       let most = confined-at-most H y Q G in
       let same = same-excess k in
       let tight : Tight H (height C y) G = omega (arith, a .fits) in
-      let all : high ≡ excess R (height C y) k = omega (arith, a .fits) in
-      (tight, λ r l b. in-group (G r) (height C y r) b (sum-even R _ _ (λ r l. part-at (G r) (height C y r)) all r l))
+      let all : sumOver R G (λ r. height C y r - k) ≡ excess R (height C y) k = omega (arith, a .fits) in
+      (tight, λ r l b. in-group (G r) (height C y r) b (sum-even R _ _ (part-most R (height C y) k G) all r l))
     where
-      within : (r : ℕ) → r < R → G r ≡ true → k ≤ height C x r
-      within = cut-within H (height C x) k G (level-cut H x P k noRig lx) a
-
-      mine-at : (b : Bool) (n : ℕ) → (k < n → b ≡ true) → (b ≡ true → k ≤ n) → cond b n 0 ≡ (n - k) + cond b k 0
-      mine-at b n above below = grind arith
-
-      theirs-at : (b : Bool) (n : ℕ) → cond b n 0 ≤ cond b (n - k) 0 + cond b k 0
-      theirs-at b n = grind arith
-
-      part-at : (b : Bool) (n : ℕ) → cond b (n - k) 0 ≤ n - k
-      part-at b n = grind arith
-
       in-group : (b : Bool) (n : ℕ) → k < n → cond b (n - k) 0 ≡ n - k → b ≡ true
       in-group true n l e = refl
       in-group false n l e = let none : ⊥ = omega arith in absurd none
@@ -261,5 +242,5 @@ agree C R H H′ x y same P Q lx ly = record {
     same-bottleneck H H′ x y same P Q lx ly L M,
     same-bottleneck H′ H y x (same-flip H H′ same) Q P ly lx L M,
   );
-  confines = λ G. confined-same H H′ G G same (λ r l. refl);
+  confines = λ G. confined-framed H H′ (same-framed H H′ same) G G (λ r l. refl);
 }

@@ -5,12 +5,12 @@ use mathlib.Core.Bool.{true, cond}
 use Prim.Native.Nat.{ℕ, _+_, _-_, _<_}
 use native.Mathlib.Omega.{arith}
 use lib.Dec.{eqb}
-use Rattle.std.proofs.shelf.Tests.{cases-eq, cases-bool, both-ways, or-cases, or-left, eqb-true}
-use Rattle.levelling.specs.Sums.{Group, only, Alike, sumTo, unit, OneMore}
+use Rattle.std.proofs.shelf.Tests.{cases-eq, both-ways, or-cases, or-left, eqb-true}
+use Rattle.levelling.specs.Sums.{Group, only, Alike, sumTo, unit, OneMore, OneMoved}
 use Rattle.levelling.specs.Halls.{Hall, Placing, Placement, height}
 use Rattle.levelling.specs.Groups.{SmallestTight}
-use Rattle.levelling.specs.Changes.{OnePumpMore, DonorOf, DonorTo, Raised, Lowered, Pulled}
-use Rattle.levelling.proofs.Sums.{sum-same, sum-zero, sum-add, sum-spot, with-one}
+use Rattle.levelling.specs.Changes.{OnePumpMore, DonorOf, DonorTo, PlacedSo}
+use Rattle.levelling.proofs.Sums.{sum-same, sum-add, sum-spot, over-unit, with-one}
 use Rattle.levelling.proofs.Tightness.{stands}
 use Rattle.levelling.proofs.Growing.{Out, Grown, done, adds}
 use Rattle.levelling.proofs.Reaching.{steps, step-by, around, around-smallest, around-grown, around-from, given, donor-of-to}
@@ -48,10 +48,7 @@ module _ {C R : ℕ} (H H′ : Hall C R) (c b : ℕ) (more : OnePumpMore H c H�
   more-pumps : OneMore C c (λ q. sumTo R (z q)) (λ q. sumTo R (z′ q))
   more-pumps q lq =
       sum-same R _ _ (λ r lr. pump q r) ∙ sum-add R (z q) (λ r. cond (eqb q c) (unit b r) 0) ∙
-      ap (λ n. sumTo R (z q) + n) (elim (cases-bool (eqb q c)) [
-        | inl t ↦ sum-same R _ (unit b) (λ r l. grind arith) ∙ sum-spot R b 1 lb ∙ grind arith
-        | inr f ↦ sum-zero R _ (λ r l. grind arith) ∙ grind arith
-      ])
+      ap (λ n. sumTo R (z q) + n) (over-unit R (λ r. eqb q c) b lb)
 
   more-placement : H .usable c b ≡ true → Placement H z → Placement H′ z′
   more-placement can P = record {
@@ -94,7 +91,7 @@ fewer-more H c lc some = record {
 
 module _ {C R : ℕ} (H : Hall C R) (z : Placing) (P : Placement H z) (c a b : ℕ) (lc : c < C) (la : a < R) (lb : b < R)
     (can : H .usable c b ≡ true) (some : z c a ≢ 0) where
-  pulled-one : Pulled z a b H (moved c a b z)
+  pulled-one : PlacedSo H (OneMoved R a b (height C z)) (moved c a b z)
   unfolding moved fewer
   pulled-one =
       let more = fewer-more H c lc (stands H z P c a lc la some) in
@@ -116,7 +113,7 @@ module _ {C R : ℕ} (H : Hall C R) (z : Placing) (P : Placement H z) (c a b : �
 abbrev Leads : {C R : ℕ} → Hall C R → Placing → ℕ → Group → Type 0
 Leads {C} {R} H x d S =
     (r : ℕ) → r < R → S r ≡ true → (z : Placing) → Placement H z →
-    ((c j : ℕ) → c < C → j < R → S j ≡ true → j ≢ r → x c j ≢ 0 → z c j ≢ 0) → (y : Placing) × Pulled z d r H y
+    ((c j : ℕ) → c < C → j < R → S j ≡ true → j ≢ r → x c j ≢ 0 → z c j ≢ 0) → (y : Placing) × PlacedSo H (OneMoved R d r (height C z)) y
 
 module _ {C R : ℕ} (F H : Hall C R) (same : (c : ℕ) → c < C → Alike R (F .usable c) (H .usable c)) (x : Placing) (d : ℕ) where
   leads-start : Leads H x d (only d)
@@ -156,7 +153,7 @@ module _ {C R : ℕ} (F H : Hall C R) (same : (c : ℕ) → c < C → Alike R (F
 
   -- a chain leads from d to each rig of the smallest tight group around d, in any placement that has x's pumps elsewhere
   chain : (r : ℕ) → r < R → around F x (only d) r ≡ true → (z : Placing) → Placement H z →
-      ((c j : ℕ) → j ≢ r → x c j ≢ 0 → z c j ≢ 0) → (y : Placing) × Pulled z d r H y
+      ((c j : ℕ) → j ≢ r → x c j ≢ 0 → z c j ≢ 0) → (y : Placing) × PlacedSo H (OneMoved R d r (height C z)) y
   chain r lr m z Q has =
       leads-all (around-grown F x (only d)) leads-start r lr m z Q (λ c j lc lj i ne some. has c j ne some)
 
@@ -164,7 +161,7 @@ module _ {C R : ℕ} (F H : Hall C R) (same : (c : ℕ) → c < C → Alike R (F
 module _ {C R : ℕ} (H : Hall C R) (x : Placing) (P : Placement H x) where
   -- a pump of the class t can come so that any rig g of the smallest tight group around its usable set rises
   pub can-raise : (H′ : Hall C R) (t g : ℕ) → OnePumpMore H t H′ → (A : Group) → SmallestTight H (height C x) (H .usable t) A →
-      g < R → A g ≡ true → (y : Placing) × Raised x g H′ y
+      g < R → A g ≡ true → (y : Placing) × PlacedSo H′ (OneMore R g (height C x)) y
   can-raise H′ t g more A a lg m =
       let U = H .usable t in
       let w = around-from H x P U g lg (a .least (around H x U) (around-smallest H x P U .fits) (around-smallest H x P U .holds) g lg m) in
@@ -181,7 +178,7 @@ module _ {C R : ℕ} (H : Hall C R) (x : Placing) (P : Placement H x) where
 
   -- one can go so that any donor falls
   pub can-lower : (H′ : Hall C R) (t d : ℕ) → OnePumpMore H′ t H → DonorOf H (height C x) t d →
-      (p : ℕ) → p < R → x t p ≢ 0 → (y : Placing) × Lowered x d H′ y
+      (p : ℕ) → p < R → x t p ≢ 0 → (y : Placing) × PlacedSo H′ (λ h. OneMore R d h (height C x)) y
   can-lower H′ t d less donor p lp some =
       let off = taken-more t p x some in
       let Q = less-placement H′ H t p less lp (taken t p x) x off P in
@@ -196,5 +193,5 @@ module _ {C R : ℕ} (H : Hall C R) (x : Placing) (P : Placement H x) where
       )
 
   -- any donor can give one to a rig
-  pub can-pull : (d r : ℕ) → r < R → DonorTo H (height C x) r d → (y : Placing) × Pulled x d r H y
+  pub can-pull : (d r : ℕ) → r < R → DonorTo H (height C x) r d → (y : Placing) × PlacedSo H (OneMoved R d r (height C x)) y
   can-pull d r lr donor = chain H H (λ c lc j lj. refl) x d r lr (given H x P d r donor) x P (λ c j ne some. some)

@@ -1,7 +1,7 @@
 -- Costs of queues. A convex cost is a sum of excesses, each as often as the cost bends there, and a part that all placements
 -- of the same pumps share; of the turns waited, every bend is 1.
 use mathlib.Core.Path.{_≡_, sym, ap, _∙_}
-use mathlib.Core.Bool.{cond}
+use mathlib.Core.Bool.{Bool, cond}
 use Prim.Native.Nat.{ℕ, zero, suc, _+_, _-_, _*_, _<_, _≤_}
 use native.Mathlib.Omega.{arith}
 use native.Mathlib.Nat.{mul-le-mul-left}
@@ -10,15 +10,17 @@ use Rattle.levelling.specs.Sums.{sumTo}
 use Rattle.levelling.specs.Halls.{Hall, pumps, Placing, Placement, height}
 use Rattle.levelling.specs.Levels.{excess, Convex}
 use Rattle.levelling.specs.Theorems.{A-Level-Placement-Is-Best-For-Every-Convex-Cost, Turns-Waited-Are-The-Sum-Of-The-Excesses}
-use Rattle.levelling.proofs.Sums.{sum-le, sum-same, sum-add, sum-zero, sum-swap, sum-term, sum-front, sum-scale}
+use Rattle.levelling.proofs.Sums.{sum-le, sum-same, sum-add, sum-zero, sum-swap, sum-term, sum-front, sum-scale, above-next}
 use Rattle.levelling.proofs.Cutting.{level-least}
 
--- a pump more, above k + 1
-above-next : (n k : ℕ) → suc n - (k + 1) ≡ (n - (k + 1)) + cond (ltb k n) 1 0
-above-next n k = grind arith
-
-weighted : (b w n k : ℕ) → w ≡ n + cond (ltb k b) 1 0 → (m : ℕ) → m * w ≡ m * n + cond (ltb k b) m 0
-weighted b w n k e m = rw e (grind arith)
+-- one pump more, above k + 1, m times over
+weighted : (m n k : ℕ) → m * (suc n - (k + 1)) ≡ m * (n - (k + 1)) + cond (ltb k n) m 0
+weighted m n k =
+    let e : suc n - (k + 1) ≡ (n - (k + 1)) + cond (ltb k n) 1 0 = omega (arith, above-next n k) in
+    rw e (times m (n - (k + 1)) (ltb k n))
+  where
+    times : (m w : ℕ) (b : Bool) → m * (w + cond b 1 0) ≡ m * w + cond b m 0
+    times m w b = grind arith
 
 -- a queue of n, measured above each k + 1 and there weighed by f
 abbrev weigh : (ℕ → ℕ) → ℕ → ℕ → ℕ
@@ -26,7 +28,7 @@ weigh f K n = sumTo K (λ k. f k * (n - (k + 1)))
 
 weigh-next : (f : ℕ → ℕ) (K n : ℕ) → n ≤ K → weigh f K (suc n) ≡ weigh f K n + sumTo n f
 weigh-next f K n l =
-    sum-same K _ _ (λ k b. weighted n (suc n - (k + 1)) (n - (k + 1)) k (above-next n k) (f k)) ∙
+    sum-same K _ _ (λ k b. weighted (f k) n k) ∙
     sum-add K (λ k. f k * (n - (k + 1))) (λ k. cond (ltb k n) (f k) 0) ∙
     ap (λ m. weigh f K n + m) (sum-front K n f l)
 

@@ -1,5 +1,5 @@
 -- Level is a cut at every height, and a cut at k shows that no placement has less above k.
-use mathlib.Core.Path.{_≡_, refl, sym, _∙_}
+use mathlib.Core.Path.{_≡_, refl, _∙_}
 use mathlib.Core.Logic.{inl, inr}
 use mathlib.Core.Bool.{Bool, true, cond}
 use Prim.Native.Nat.{ℕ, _+_, _-_, _<_, _≤_}
@@ -68,23 +68,46 @@ cuts-level {C} {R} H h E cuts r j G lr lj a g e =
 pub level-is-cuts : Level-Is-A-Cut-At-Every-Height
 level-is-cuts C R H x P E = (λ level k. level-cut H x P k E level, cuts-level H (height C x) E)
 
+-- ---- counting the pumps of a group by k for each rig and what is above k
+module _ (R : ℕ) (h : ℕ → ℕ) (k : ℕ) (G : Group) where
+  pub count-most : placedOn R h G ≤ sumOver R G (λ r. h r - k) + sumOver R G (λ r. k)
+  count-most =
+      rw (← sum-add R (λ r. cond (G r) (h r - k) 0) (λ r. cond (G r) k 0)) (sum-le R _ _ (λ r l. at (G r) (h r)))
+    where
+      at : (b : Bool) (n : ℕ) → cond b n 0 ≤ cond b (n - k) 0 + cond b k 0
+      at b n = grind arith
+
+  pub part-most : (r : ℕ) → r < R → cond (G r) (h r - k) 0 ≤ h r - k
+  part-most r l = at (G r) (h r)
+    where
+      at : (b : Bool) (n : ℕ) → cond b (n - k) 0 ≤ n - k
+      at b n = grind arith
+
+  -- the part of the excess that stands on G
+  pub part-excess : sumOver R G (λ r. h r - k) ≤ excess R h k
+  part-excess = sum-le R _ _ part-most
+
+  -- of a group that has every rig higher than k and none lower than k
+  pub count-even : ((r : ℕ) → r < R → k < h r → G r ≡ true) → ((r : ℕ) → r < R → G r ≡ true → k ≤ h r) →
+      placedOn R h G ≡ excess R h k + sumOver R G (λ r. k)
+  count-even above below =
+      sum-same R _ _ (λ r l. at (G r) (h r) (above r l) (below r l)) ∙ sum-add R (λ r. h r - k) (λ r. cond (G r) k 0)
+    where
+      at : (b : Bool) (n : ℕ) → (k < n → b ≡ true) → (b ≡ true → k ≤ n) → cond b n 0 ≡ (n - k) + cond b k 0
+      at b n above below = grind arith
+
 -- heights of a placement of the same pumps have no less above k than heights with a cut at k
-pub cut-least : {C R : ℕ} (H : Hall C R) (h h′ : ℕ → ℕ) (k : ℕ) → Cut H h noRig k →
+cut-least : {C R : ℕ} (H : Hall C R) (h h′ : ℕ → ℕ) (k : ℕ) → Cut H h noRig k →
     ((G : Group) → confined H G ≤ placedOn R h′ G) → excess R h k ≤ excess R h′ k
 cut-least {C} {R} H h h′ k cut most =
-    let flat = sumOver R (cut .group) (λ r. k) in
-    let mine : excess R h k + flat ≡ placedOn R h (cut .group) =
-    sym (sum-add R (λ r. h r - k) (λ r. cond (cut .group r) k 0)) ∙
-    sum-same R _ _ (λ r l. even (cut .group r) (h r) (cut .above r l) (λ m. cut .below r l m refl)) in
-    let theirs : placedOn R h′ (cut .group) ≤ excess R h′ k + flat =
-    rw (← sum-add R (λ r. h′ r - k) (λ r. cond (cut .group r) k 0)) (sum-le R _ _ (λ r l. fewer (cut .group r) (h′ r))) in
-    omega (arith, cut .tight, most (cut .group))
-  where
-    even : (b : Bool) (n : ℕ) → (k < n → b ≡ true) → (b ≡ true → k ≤ n) → (n - k) + cond b k 0 ≡ cond b n 0
-    even b n above below = grind arith
-
-    fewer : (b : Bool) (n : ℕ) → cond b n 0 ≤ (n - k) + cond b k 0
-    fewer b n = grind arith
+    omega (
+      arith,
+      cut .tight,
+      most (cut .group),
+      count-even R h k (cut .group) (cut .above) (λ r l m. cut .below r l m refl),
+      count-most R h′ k (cut .group),
+      part-excess R h′ k (cut .group),
+    )
 
 pub level-least : A-Level-Placement-Has-The-Least-Excess
 level-least C R H x y P Q level k =

@@ -1,60 +1,19 @@
 -- A hall in a larger frame, with classes of which no pump stands and rigs that no standing pump can use.
 use mathlib.Core.Path.{_≡_, refl, sym, _∙_}
-use mathlib.Core.Logic.{_≢_, inl, inr}
-use mathlib.Core.Bool.{Bool, cond, _&&_}
+use mathlib.Core.Logic.{_≢_, _↔_, inl, inr}
+use mathlib.Core.Bool.{cond, _&&_}
 use Prim.Native.Nat.{ℕ, _<_, _≤_}
 use native.Mathlib.Omega.{arith}
 use lib.Dec.{ltb}
 use Rattle.std.proofs.shelf.Tests.{cases-eq, cases-lt, both-ways, and-parts, and-from, ltb-true, lt-ltb, le-ltb}
-use Rattle.std.proofs.shelf.Ways.{same-from-decides, decides-like}
-use Rattle.levelling.specs.Sums.{Group, Inside, inside, Alike}
+use Rattle.levelling.specs.Sums.{Group, Alike}
 use Rattle.levelling.specs.Halls.{Hall, Placing, Placement, height, Framed}
-use Rattle.levelling.specs.Groups.{confined, placedOn, Tight}
+use Rattle.levelling.specs.Groups.{Tight}
 use Rattle.levelling.specs.Levels.{Level, noRig}
 use Rattle.levelling.specs.Theorems.{A-Larger-Frame-Changes-Nothing}
-use Rattle.levelling.proofs.Sums.{sum-longer, sum-zero, sum-term, inside-decides}
-use Rattle.levelling.proofs.Tightness.{stands}
+use Rattle.levelling.proofs.Sums.{sum-longer, sum-zero, sum-term}
+use Rattle.levelling.proofs.Tightness.{stands, confined-framed, tight-framed}
 use Rattle.levelling.proofs.Cutting.{level-cut, cuts-level}
-
-module _ {C R C′ R′ : ℕ} (H : Hall C R) (H′ : Hall C′ R′) (framed : Framed H H′) where
-  -- a group with no rig outside H, or any group, confines as many in both
-  inside-framed : (c : ℕ) → c < C → H .standing c ≢ 0 → (F G : Group) → Alike R F G → inside R (H .usable c) F ≡ inside R′ (H′ .usable c) G
-  inside-framed c lc some F G same =
-      same-from-decides _ _ (inside-decides R (H .usable c) F) (decides-like _ to from (inside-decides R′ (H′ .usable c) G))
-    where
-      to : Inside R′ (H′ .usable c) G → Inside R (H .usable c) F
-      to i r l u = same r l ∙ i r (omega (arith, framed .rigs)) (sym (framed .usable c lc some r l) ∙ u)
-
-      from : Inside R (H .usable c) F → Inside R′ (H′ .usable c) G
-      from i r l u =
-          elim (cases-lt r R) [
-            | inl b ↦ sym (same r b) ∙ i r b (framed .usable c lc some r b ∙ u)
-            | inr a ↦ absurd (both-ways _ (framed .no-use c r lc some a l) u)
-          ]
-
-  confined-framed : (F G : Group) → Alike R F G → confined H F ≡ confined H′ G
-  confined-framed F G same = sum-longer C C′ _ _ (framed .classes) at (λ c a l. none _ _ (framed .no-pump c a l))
-    where
-      none : (b : Bool) (n : ℕ) → n ≡ 0 → cond b n 0 ≡ 0
-      none b n z = grind arith
-
-      both : (a b : Bool) (n m : ℕ) → n ≡ m → (n ≢ 0 → a ≡ b) → cond a n 0 ≡ cond b m 0
-      both a b n m e h = elim (cases-eq n 0) [ inl z ↦ grind arith | inr d ↦ let f = h d in grind arith ]
-
-      at : (c : ℕ) → c < C → cond (inside R (H .usable c) F) (H .standing c) 0 ≡ cond (inside R′ (H′ .usable c) G) (H′ .standing c) 0
-      at c l = both _ _ _ _ (framed .standing c l) (λ d. inside-framed c l d F G same)
-
-  -- a group's rigs outside H count for nothing where they have no height
-  placed-framed : (h h′ : ℕ → ℕ) → Alike R h h′ → ((r : ℕ) → R ≤ r → r < R′ → h′ r ≡ 0) → (F G : Group) → Alike R F G →
-      placedOn R h F ≡ placedOn R′ h′ G
-  placed-framed h h′ same none F G alike =
-      sum-longer R R′ _ _ (framed .rigs) (λ r l. at (F r) (G r) (h r) (h′ r) (alike r l) (same r l)) (λ r a l. no-pump (G r) (h′ r) (none r a l))
-    where
-      at : (a b : Bool) (n m : ℕ) → a ≡ b → n ≡ m → cond a n 0 ≡ cond b m 0
-      at a b n m e f = rw (e, f) refl
-
-      no-pump : (b : Bool) (n : ℕ) → n ≡ 0 → cond b n 0 ≡ 0
-      no-pump b n z = grind arith
 
 -- ---- a placement in the larger frame
 module _ {C R C′ R′ : ℕ} (H : Hall C R) (H′ : Hall C′ R′) (framed : Framed H H′) (x : Placing) (P : Placement H′ x) where
@@ -68,7 +27,7 @@ module _ {C R C′ R′ : ℕ} (H : Hall C R) (H′ : Hall C′ R′) (framed : 
         | inr d ↦ elim (cases-lt c C) [
           | inr beyond ↦ no-class c r beyond l lr
           | inl lc ↦
-              let some : H .standing c ≢ 0 = λ z. d (omega (arith, sum-term R′ (x c) r lr, P .each-once c l, framed .standing c lc)) in
+              let some : H .standing c ≢ 0 = λ z. stands H′ x P c r l lr d (sym (framed .standing c lc) ∙ z) in
               absurd (both-ways _ (framed .no-use c r lc some a lr) (P .on-usable c r l lr d))
         ]
       ]
@@ -78,7 +37,7 @@ module _ {C R C′ R′ : ℕ} (H : Hall C R) (H′ : Hall C′ R′) (framed : 
     on-usable = λ c r lc lr d.
         let l : c < C′ = omega (arith, framed .classes) in
         let lr′ : r < R′ = omega (arith, framed .rigs) in
-        let some : H .standing c ≢ 0 = λ z. d (omega (arith, sum-term R′ (x c) r lr′, P .each-once c l, framed .standing c lc)) in
+        let some : H .standing c ≢ 0 = λ z. stands H′ x P c r l lr′ d (sym (framed .standing c lc) ∙ z) in
         framed .usable c lc some r lr ∙ P .on-usable c r l lr′ d;
     each-once = λ c lc.
         let l : c < C′ = omega (arith, framed .classes) in
@@ -100,14 +59,8 @@ module _ {C R C′ R′ : ℕ} (H : Hall C R) (H′ : Hall C′ R′) (framed : 
   unfolding within
   within-same G r l = rw (lt-ltb r R l) refl
 
-  tight-larger : (F G : Group) → Alike R F G → Tight H (height C x) F → Tight H′ (height C′ x) G
-  tight-larger F G same t =
-      sym (confined-framed H H′ framed F G same) ∙ t ∙ placed-framed H H′ framed (height C x) (height C′ x) same-heights no-heights F G same
-
-  tight-smaller : (G : Group) → Tight H′ (height C′ x) G → Tight H (height C x) G
-  tight-smaller G t =
-      confined-framed H H′ framed G G (λ r l. refl) ∙ t ∙
-      sym (placed-framed H H′ framed (height C x) (height C′ x) same-heights no-heights G G (λ r l. refl))
+  tight-both : (F G : Group) → Alike R F G → Tight H (height C x) F ↔ Tight H′ (height C′ x) G
+  tight-both F G same = tight-framed H H′ framed F G same (height C x) (height C′ x) same-heights no-heights
 
   level-larger : Level H (height C x) → Level H′ (height C′ x)
   unfolding within
@@ -115,7 +68,7 @@ module _ {C R C′ R′ : ℕ} (H : Hall C R) (H′ : Hall C′ R′) (framed : 
       let old = level-cut H x smaller k noRig level in
       record {
         group = within (old .group);
-        tight = tight-larger (old .group) (within (old .group)) (within-same (old .group)) (old .tight);
+        tight = tight-both (old .group) (within (old .group)) (within-same (old .group)) .0 (old .tight);
         above = λ r l b. elim (cases-lt r R) [
           | inl lr ↦ and-from _ _ (lt-ltb r R lr) (old .above r lr (omega (arith, same-heights r lr)))
           | inr a ↦ let none : ⊥ = omega (arith, no-heights r a l) in absurd none
@@ -131,7 +84,7 @@ module _ {C R C′ R′ : ℕ} (H : Hall C R) (H′ : Hall C′ R′) (framed : 
       let old = level-cut H′ x P k noRig level in
       record {
         group = old .group;
-        tight = tight-smaller (old .group) (old .tight);
+        tight = tight-both (old .group) (old .group) (λ r l. refl) .1 (old .tight);
         above = λ r l b. old .above r (omega (arith, framed .rigs)) (omega (arith, same-heights r l));
         below = λ r l m e. omega (arith, same-heights r l, old .below r (omega (arith, framed .rigs)) m e);
       })

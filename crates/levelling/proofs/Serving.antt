@@ -18,7 +18,7 @@ pub leaving-out : Leaving-Out-A-Rig-And-Its-Pumps-Keeps-Level
 leaving-out C R H H′ x x′ P level r left = (P′, cuts-level H′ (height C x′) noRig cuts)
   where
     lr : r < R
-    lr = left .rig
+    lr = left .without .rig
 
     elsewhere : (c j : ℕ) → c < C → x′ c j ≢ 0 → j ≢ r
     elsewhere c j lc some e = some (ap (x′ c) e ∙ left .bare c lc)
@@ -36,7 +36,7 @@ leaving-out C R H H′ x x′ P level r left = (P′, cuts-level H′ (height C 
     P′ : Placement H′ x′
     P′ = record {
       on-usable = λ c j lc lj some.
-          left .others c j lc lj (elsewhere c j lc some) ∙ P .on-usable c j lc lj (was c j lc lj some);
+          left .without .others c j lc lj (elsewhere c j lc some) ∙ P .on-usable c j lc lj (was c j lc lj some);
       each-once = λ c lc.
           let parts = sum-same R _ _ (λ j lj. split c j lc lj) ∙ sum-add R (x′ c) (λ j. cond (eqb j r) (x c r) 0) in
           omega (arith, sum-spot R r (x c r) lr, P .each-once c lc, left .fewer c lc);
@@ -56,9 +56,9 @@ leaving-out C R H H′ x x′ P level r left = (P′, cuts-level H′ (height C 
       group = λ j. old k .group j && not (eqb r j);
       tight = closed-tight H′ x′ P′ (λ j. old k .group j && not (eqb r j)) (λ c j lc lj some m i li u.
           let parts = and-parts _ _ m in
-          let d : i ≢ r = λ e. both-ways _ (left .out c lc) (ap (H′ .usable c) (sym e) ∙ u) in
+          let d : i ≢ r = λ e. both-ways _ (left .without .out c lc) (ap (H′ .usable c) (sym e) ∙ u) in
           and-from _ _
-          (tight-closed H x P (old k .group) (old k .tight) c j lc lj (was c j lc lj some) (parts .0) i li (sym (left .others c i lc li d) ∙ u))
+          (tight-closed H x P (old k .group) (old k .tight) c j lc lj (was c j lc lj some) (parts .0) i li (sym (left .without .others c i lc li d) ∙ u))
           (not-from-false _ (ne-eqb r i (λ e. d (sym e)))));
       above = λ j lj b. elim (cases-eq j r) [
         | inl e ↦ let none : ⊥ = omega (arith, ap (height C x′) e, no-height) in absurd none
@@ -74,16 +74,16 @@ pub letting-in : Letting-In-A-Rig-Keeps-Level-But-For-It
 letting-in C R H H′ x P level r into = (P′, bare, cuts-level H′ (height C x) (only r) cuts)
   where
     elsewhere : (c j : ℕ) → c < C → j < R → x c j ≢ 0 → j ≢ r
-    elsewhere c j lc lj some e = both-ways _ (into .out c lc) (ap (H .usable c) (sym e) ∙ P .on-usable c j lc lj some)
+    elsewhere c j lc lj some e = both-ways _ (into .without .out c lc) (ap (H .usable c) (sym e) ∙ P .on-usable c j lc lj some)
 
     P′ : Placement H′ x
     P′ = record {
-      on-usable = λ c j lc lj some. into .others c j lc lj (elsewhere c j lc lj some) ∙ P .on-usable c j lc lj some;
+      on-usable = λ c j lc lj some. sym (into .without .others c j lc lj (elsewhere c j lc lj some)) ∙ P .on-usable c j lc lj some;
       each-once = λ c lc. P .each-once c lc ∙ into .standing c lc;
     }
 
     bare : height C x r ≡ 0
-    bare = sum-zero C _ (λ c lc. elim (cases-eq (x c r) 0) [ inl z ↦ z | inr d ↦ absurd (elsewhere c r lc (into .rig) d refl) ])
+    bare = sum-zero C _ (λ c lc. elim (cases-eq (x c r) 0) [ inl z ↦ z | inr d ↦ absurd (elsewhere c r lc (into .without .rig) d refl) ])
 
     old : (k : ℕ) → Cut H (height C x) noRig k
     old k = level-cut H x P k noRig level
@@ -97,7 +97,7 @@ letting-in C R H H′ x P level r into = (P′, bare, cuts-level H′ (height C 
             | inl g ↦ elim (cases-eq i r) [
               | inl e ↦ or-right _ _ (eq-eqb r i (sym e))
               | inr d ↦ or-left _ _
-                  (tight-closed H x P (old k .group) (old k .tight) c j lc lj some g i li (sym (into .others c i lc li d) ∙ u))
+                  (tight-closed H x P (old k .group) (old k .tight) c j lc lj some g i li (into .without .others c i lc li d ∙ u))
             ]
           ]);
       above = λ j lj b. or-left _ _ (old k .above j lj b);

@@ -2,7 +2,7 @@
 use mathlib.Core.Path.{_≡_, refl, sym, ap, _∙_}
 use mathlib.Core.Logic.{_≢_, _⊎_, inl, inr}
 use mathlib.Core.Bool.{Bool, true, false, not, cond, _||_}
-use Prim.Native.Nat.{ℕ, zero, suc, _+_, _*_, _<_, _≤_}
+use Prim.Native.Nat.{ℕ, zero, suc, _+_, _-_, _*_, _<_, _≤_}
 use native.Mathlib.Omega.{arith}
 use Rattle.std.specs.Orderings.{Decides}
 use Rattle.std.proofs.shelf.Tests.{cases-eq, cases-bool, false≢true, cond-true, cond-false, lt-ltb, le-ltb}
@@ -98,6 +98,10 @@ pub sum-scale : (n m : ℕ) (f : ℕ → ℕ) → sumTo n (λ i. m * f i) ≡ m 
 sum-scale zero m f = omega arith
 sum-scale (suc n) m f = omega (arith, sum-scale n m f)
 
+-- what is above k is what is above k + 1, and one more where n is higher than k
+pub above-next : (n k : ℕ) → n - k ≡ (n - (k + 1)) + cond (ltb k n) 1 0
+above-next n k = grind arith
+
 -- ---- sums over a group
 over-at : (b : Bool) (u v : ℕ) → cond b (u + v) 0 ≡ cond b u 0 + cond b v 0
 over-at b u v = grind arith
@@ -120,7 +124,7 @@ pub over-constant : (n : ℕ) (G : Group) (k : ℕ) → sumOver n G (λ i. k) �
 over-constant zero G k = omega arith
 over-constant (suc n) G k = let ih = over-constant n G k in grind arith
 
-over-unit : (n : ℕ) (G : Group) (j : ℕ) → j < n → sumOver n G (unit j) ≡ cond (G j) 1 0
+pub over-unit : (n : ℕ) (G : Group) (j : ℕ) → j < n → sumOver n G (unit j) ≡ cond (G j) 1 0
 over-unit n G j l =
     elim (cases-bool (G j)) [
       | inl t ↦ sum-same n _ (unit j) (λ i b. grind arith) ∙ sum-spot n j 1 l ∙ grind arith

@@ -1,18 +1,18 @@
 -- Confined pumps are placed on their group; the tight groups are the closed ones; what tightness depends on.
-use mathlib.Core.Path.{_≡_, refl, sym, ap, _∙_}
-use mathlib.Core.Logic.{_≢_, inl, inr}
+use mathlib.Core.Path.{_≡_, refl, sym, _∙_}
+use mathlib.Core.Logic.{_≢_, _↔_, inl, inr}
 use mathlib.Core.Bool.{Bool, true, false, cond, _&&_, _||_}
 use Prim.Native.Nat.{ℕ, _<_, _≤_}
 use native.Mathlib.Omega.{arith}
-use Rattle.std.proofs.shelf.Tests.{cases-bool, cases-eq, cond-true, cond-false, or-cases, or-left, or-right, and-parts, and-from}
+use Rattle.std.proofs.shelf.Tests.{cases-bool, cases-eq, cases-lt, both-ways, cond-true, cond-false, or-cases, or-left, or-right, and-parts, and-from}
 use Rattle.std.proofs.shelf.Ways.{same-from-decides, decides-like}
 use lib.Dec.{eqb}
 use Rattle.levelling.specs.Sums.{Group, Inside, inside, Alike, sumTo, sumOver}
-use Rattle.levelling.specs.Halls.{Hall, Placing, Placement, height, SamePumps, Widened}
+use Rattle.levelling.specs.Halls.{Hall, Placing, Placement, height, SamePumps, Widened, Framed}
 use Rattle.levelling.specs.Groups.{confined, placedOn, Tight, SmallestTight, Closed}
 use Rattle.levelling.specs.Levels.{LevelBut}
 use Rattle.levelling.specs.Theorems.{Confined-Pumps-Are-Never-More-Than-Placed, A-Group-Is-Tight-Exactly-When-Closed, The-Common-Part-And-Union-Of-Tight-Groups-Are-Tight, Tightness-Depends-Only-On-Usable-Sets-Standing-Counts-And-Heights}
-use Rattle.levelling.proofs.Sums.{sum-le, sum-same, sum-zero, sum-swap, sum-term, sum-even, over-same, inside-decides, inside-not}
+use Rattle.levelling.proofs.Sums.{sum-le, sum-same, sum-zero, sum-swap, sum-term, sum-even, sum-longer, inside-decides, inside-not}
 
 cond-sum : (b : Bool) (n : ℕ) (f : ℕ → ℕ) → cond b (sumTo n f) 0 ≡ sumTo n (λ i. cond b (f i) 0)
 cond-sum true n f = refl
@@ -100,7 +100,45 @@ module _ {C R : ℕ} (H : Hall C R) (x : Placing) (P : Placement H x) (F G : Gro
 pub common-and-union : The-Common-Part-And-Union-Of-Tight-Groups-Are-Tight
 common-and-union C R H x P F G f g = (common-tight H x P F G f g, union-tight H x P F G f g)
 
--- ---- halls where the same pumps stand
+-- ---- a hall in a larger frame, and halls where the same pumps stand
+no-pump : (b : Bool) (n : ℕ) → n ≡ 0 → cond b n 0 ≡ 0
+no-pump b n z = grind arith
+
+module _ {C R C′ R′ : ℕ} (H : Hall C R) (H′ : Hall C′ R′) (framed : Framed H H′) (F G : Group) (alike : Alike R F G) where
+  -- a standing class is confined to F in H just if it is to G in H′: rigs that H has not do not matter
+  inside-framed : (c : ℕ) → c < C → H .standing c ≢ 0 → inside R (H .usable c) F ≡ inside R′ (H′ .usable c) G
+  inside-framed c lc some =
+      same-from-decides _ _ (inside-decides R (H .usable c) F) (decides-like _ to from (inside-decides R′ (H′ .usable c) G))
+    where
+      to : Inside R′ (H′ .usable c) G → Inside R (H .usable c) F
+      to i r l u = alike r l ∙ i r (omega (arith, framed .rigs)) (sym (framed .usable c lc some r l) ∙ u)
+
+      from : Inside R (H .usable c) F → Inside R′ (H′ .usable c) G
+      from i r l u =
+          elim (cases-lt r R) [
+            | inl b ↦ sym (alike r b) ∙ i r b (framed .usable c lc some r b ∙ u)
+            | inr a ↦ absurd (both-ways _ (framed .no-use c r lc some a l) u)
+          ]
+
+  pub confined-framed : confined H F ≡ confined H′ G
+  confined-framed = sum-longer C C′ _ _ (framed .classes) at (λ c a l. no-pump _ _ (framed .no-pump c a l))
+    where
+      both : (a b : Bool) (n m : ℕ) → n ≡ m → (n ≢ 0 → a ≡ b) → cond a n 0 ≡ cond b m 0
+      both a b n m e h = elim (cases-eq n 0) [ inl z ↦ grind arith | inr d ↦ let f = h d in grind arith ]
+
+      at : (c : ℕ) → c < C → cond (inside R (H .usable c) F) (H .standing c) 0 ≡ cond (inside R′ (H′ .usable c) G) (H′ .standing c) 0
+      at c l = both _ _ _ _ (framed .standing c l) (inside-framed c l)
+
+  -- nor do their heights, where they have none
+  pub tight-framed : (h h′ : ℕ → ℕ) → Alike R h h′ → ((r : ℕ) → R ≤ r → r < R′ → h′ r ≡ 0) → Tight H h F ↔ Tight H′ h′ G
+  tight-framed h h′ same none = (λ t. sym confined-framed ∙ t ∙ placed, λ t. confined-framed ∙ t ∙ sym placed)
+    where
+      at : (a b : Bool) (n m : ℕ) → a ≡ b → n ≡ m → cond a n 0 ≡ cond b m 0
+      at a b n m e f = rw (e, f) refl
+
+      placed : placedOn R h F ≡ placedOn R′ h′ G
+      placed = sum-longer R R′ _ _ (framed .rigs) (λ r l. at _ _ _ _ (alike r l) (same r l)) (λ r a l. no-pump _ _ (none r a l))
+
 pub inside-same : (n : ℕ) (S S′ F G : Group) → Alike n S S′ → Alike n F G → inside n S F ≡ inside n S′ G
 inside-same n S S′ F G s g =
     same-from-decides _ _ (inside-decides n S F)
@@ -133,24 +171,21 @@ placement-widened {C} {R} H H′ x x′ wide same P = record {
   each-once = λ c lc. sym (sum-same R _ _ (same c lc)) ∙ P .each-once c lc ∙ wide .standing c lc;
 }
 
-pub confined-same : {C R : ℕ} (H H′ : Hall C R) (F G : Group) → SamePumps H H′ → Alike R F G → confined H F ≡ confined H′ G
-confined-same {C} {R} H H′ F G same alike = sum-same C _ _ at
-  where
-    no-pump : (a b : Bool) (n m : ℕ) → n ≡ m → n ≡ 0 → cond a n 0 ≡ cond b m 0
-    no-pump a b n m e z = grind arith
-
-    at : (c : ℕ) → c < C → cond (inside R (H .usable c) F) (H .standing c) 0 ≡ cond (inside R (H′ .usable c) G) (H′ .standing c) 0
-    at c l =
-        elim (cases-eq (H .standing c) 0) [
-          | inl z ↦ no-pump _ _ _ _ (same .standing c l) z
-          | inr d ↦
-              ap (λ b. cond b (H .standing c) 0) (inside-same R _ _ F G (same .usable c l d) alike) ∙
-              ap (λ n. cond (inside R (H′ .usable c) G) n 0) (same .standing c l)
-        ]
+-- the same pumps stand in the frame that is no larger
+pub same-framed : {C R : ℕ} (H H′ : Hall C R) → SamePumps H H′ → Framed H H′
+same-framed {C} {R} H H′ same = record {
+  classes = omega arith;
+  rigs = omega arith;
+  standing = same .standing;
+  no-pump = λ c a l. let none : ⊥ = omega arith in absurd none;
+  usable = same .usable;
+  no-use = λ c r lc d a l. let none : ⊥ = omega arith in absurd none;
+}
 
 module _ {C R : ℕ} (H H′ : Hall C R) (h h′ : ℕ → ℕ) (same : SamePumps H H′) (alike : Alike R h h′) where
   tight-same : (F G : Group) → Alike R F G → Tight H h F → Tight H′ h′ G
-  tight-same F G e t = sym (confined-same H H′ F G same e) ∙ t ∙ over-same R F G h h′ e alike
+  tight-same F G e =
+      tight-framed H H′ (same-framed H H′ same) F G e h h′ alike (λ r a l. let none : ⊥ = omega arith in absurd none) .0
 
 module _ {C R : ℕ} (H H′ : Hall C R) (h h′ : ℕ → ℕ) (same : SamePumps H H′) (alike : Alike R h h′) where
   pub smallest-same : (S S′ F G : Group) → Alike R S S′ → Alike R F G → SmallestTight H h S F → SmallestTight H′ h′ S′ G

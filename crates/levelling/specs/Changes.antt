@@ -3,7 +3,7 @@ use mathlib.Core.Path.{_≡_}
 use mathlib.Core.Logic.{_≢_}
 use mathlib.Core.Bool.{true, false}
 use Prim.Native.Nat.{ℕ, _+_, _<_}
-use Rattle.levelling.specs.Sums.{Group, only, Inside, Alike, OneMore, OneMoved}
+use Rattle.levelling.specs.Sums.{Group, only, Inside, Alike, OneMore}
 use Rattle.levelling.specs.Halls.{Hall, Placing, Placement, height}
 use Rattle.levelling.specs.Groups.{SmallestTight}
 
@@ -21,37 +21,29 @@ DonorOf {C} {R} H h t d = (G : Group) → SmallestTight H h (only d) G → Insid
 abbrev pub DonorTo : {C R : ℕ} → Hall C R → (ℕ → ℕ) → ℕ → ℕ → Type 0
 DonorTo H h r d = (G : Group) → SmallestTight H h (only d) G → G r ≡ true
 
--- y is a placement in H′, and its heights are those of x with one more on the rig g.
-pub record Raised {C R : ℕ} (x : Placing) (g : ℕ) (H′ : Hall C R) (y : Placing) : Type 0 where
-  pub placement : Placement H′ y
-  pub heights : OneMore R g (height C x) (height C y)
-
--- y is a placement in H′, and its heights are those of x with one less on the rig d.
-pub record Lowered {C R : ℕ} (x : Placing) (d : ℕ) (H′ : Hall C R) (y : Placing) : Type 0 where
-  pub placement : Placement H′ y
-  pub heights : OneMore R d (height C y) (height C x)
-
--- y is a placement in H, and its heights are those of x with one less on the rig d and one more on the rig r.
-pub record Pulled {C R : ℕ} (x : Placing) (d r : ℕ) (H : Hall C R) (y : Placing) : Type 0 where
+-- y is a placement in H, and its heights are as P says.
+pub record PlacedSo {C R : ℕ} (H : Hall C R) (P : (ℕ → ℕ) → Type 0) (y : Placing) : Type 0 where
   pub placement : Placement H y
-  pub heights : OneMoved R d r (height C x) (height C y)
+  pub heights : P (height C y)
 
--- Some placing is as P says, and every such one is as Q says.
-abbrev pub Can-And-Always : (Placing → Type 0) → (Placing → Type 0) → Type 0
-Can-And-Always P Q = ((y : Placing) × P y) × ((y : Placing) → P y → Q y)
+-- Some placement in H has heights as P says, and whatever placement has such heights, they are as Q says.
+abbrev pub Can-And-Always : {C R : ℕ} → Hall C R → ((ℕ → ℕ) → Type 0) → ((ℕ → ℕ) → Type 0) → Type 0
+Can-And-Always {C} {R} H P Q = ((y : Placing) × PlacedSo H P y) × ((y : Placing) → PlacedSo H P y → Q (height C y))
 
--- H′ is H without the rig r and the pumps on it, and x′ is what is left of the placement x.
-pub record LeftOut {C R : ℕ} (H : Hall C R) (x : Placing) (r : ℕ) (H′ : Hall C R) (x′ : Placing) : Type 0 where
+-- H′ is H without the rig r: no class can use it in H′, and the other rigs are as in H.
+pub record Without {C R : ℕ} (H : Hall C R) (r : ℕ) (H′ : Hall C R) : Type 0 where
   pub rig : r < R
   pub out : (c : ℕ) → c < C → H′ .usable c r ≡ false
   pub others : (c j : ℕ) → c < C → j < R → j ≢ r → H′ .usable c j ≡ H .usable c j
+
+-- H′ is H without the rig r and the pumps on it, and x′ is what is left of the placement x.
+pub record LeftOut {C R : ℕ} (H : Hall C R) (x : Placing) (r : ℕ) (H′ : Hall C R) (x′ : Placing) : Type 0 where
+  pub without : Without H r H′
   pub fewer : (c : ℕ) → c < C → H′ .standing c + x c r ≡ H .standing c
   pub bare : (c : ℕ) → c < C → x′ c r ≡ 0
   pub stay : (c j : ℕ) → c < C → j < R → j ≢ r → x′ c j ≡ x c j
 
--- H′ is H with the rig r let in: no class could use it in H, and in H′ any may.
+-- H′ is H with the rig r let in: H is H′ without it, and the same number of pumps of each class stand.
 pub record LetIn {C R : ℕ} (H : Hall C R) (r : ℕ) (H′ : Hall C R) : Type 0 where
-  pub rig : r < R
-  pub out : (c : ℕ) → c < C → H .usable c r ≡ false
-  pub others : (c j : ℕ) → c < C → j < R → j ≢ r → H′ .usable c j ≡ H .usable c j
+  pub without : Without H′ r H
   pub standing : Alike C (H .standing) (H′ .standing)

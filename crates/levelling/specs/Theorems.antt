@@ -3,11 +3,11 @@ use mathlib.Core.Path.{_≡_}
 use mathlib.Core.Logic.{_≢_, _↔_}
 use mathlib.Core.Bool.{true, _&&_, _||_}
 use Prim.Native.Nat.{ℕ, _+_, _-_, _*_, _<_, _≤_}
-use Rattle.levelling.specs.Sums.{Group, only, Alike, sumTo, size}
+use Rattle.levelling.specs.Sums.{Group, only, Alike, sumTo, size, OneMore, OneMoved}
 use Rattle.levelling.specs.Halls.{Hall, pumps, Placing, Placement, height, SamePumps, Widened, Framed}
 use Rattle.levelling.specs.Groups.{confined, placedOn, Tight, SmallestTight, Closed, ReachedBackwards, density, aRig, NoDenser}
 use Rattle.levelling.specs.Levels.{LevelBut, Level, Cut, excess, turnsWaited, Convex, Greatest, Bottleneck, Agree, SameInBoth, Lowest, Highest}
-use Rattle.levelling.specs.Changes.{OnePumpMore, DonorOf, DonorTo, Raised, Lowered, Pulled, Can-And-Always, LeftOut, LetIn}
+use Rattle.levelling.specs.Changes.{OnePumpMore, DonorOf, DonorTo, Can-And-Always, LeftOut, LetIn}
 
 -- ---- groups
 
@@ -111,20 +111,20 @@ Turns-Waited-Are-The-Sum-Of-The-Excesses =
 
 -- ---- changes
 
--- The rig g rises, a lowest one of the smallest tight group A around the usable set of t.
+-- The rig g rises by one, a lowest one of the smallest tight group A around the usable set of t.
 abbrev pub Adding-To-A-Lowest-Rig-Of-Its-Smallest-Tight-Group-Keeps-Level : Type 0
 Adding-To-A-Lowest-Rig-Of-Its-Smallest-Tight-Group-Keeps-Level =
     (C R : ℕ) (H H′ : Hall C R) (x : Placing) → Placement H x → Level H (height C x) →
     (t : ℕ) → OnePumpMore H t H′ → (A : Group) → SmallestTight H (height C x) (H .usable t) A →
     (g : ℕ) → Lowest R (height C x) (λ r. A r ≡ true) g →
-    Can-And-Always (Raised x g H′) (λ y. Level H′ (height C y))
+    Can-And-Always H′ (λ h. OneMore R g (height C x) h) (λ h. Level H′ h)
 
--- The rig d falls, a highest donor of t.
+-- The rig d falls by one, a highest donor of t.
 abbrev pub Removing-From-A-Highest-Donor-Keeps-Level : Type 0
 Removing-From-A-Highest-Donor-Keeps-Level =
     (C R : ℕ) (H H′ : Hall C R) (x : Placing) → Placement H x → Level H (height C x) →
     (t : ℕ) → OnePumpMore H′ t H → (d : ℕ) → Highest R (height C x) (DonorOf H (height C x) t) d →
-    Can-And-Always (Lowered x d H′) (λ y. Level H′ (height C y))
+    Can-And-Always H′ (λ h. OneMore R d h (height C x)) (λ h. Level H′ h)
 
 -- The donors of a class are the donors to each rig with a pump of it; and the donors to a rig are what it reaches
 -- backwards, which there is.
@@ -145,12 +145,12 @@ Letting-In-A-Rig-Keeps-Level-But-For-It =
     (C R : ℕ) (H H′ : Hall C R) (x : Placing) → Placement H x → Level H (height C x) →
     (r : ℕ) → LetIn H r H′ → Placement H′ x × (height C x r ≡ 0) × LevelBut H′ (height C x) (only r)
 
--- A pull to the rig r from the rig d: d is a highest donor to r, and more than one higher than r.
+-- One is moved from the rig d to the rig r: d is a highest donor to r, and more than one higher than r.
 abbrev pub A-Pull-From-A-Highest-Donor-Keeps-Level-But-For-The-Rig : Type 0
 A-Pull-From-A-Highest-Donor-Keeps-Level-But-For-The-Rig =
     (C R : ℕ) (H : Hall C R) (x : Placing) → Placement H x → (r : ℕ) → r < R → LevelBut H (height C x) (only r) →
     (d : ℕ) → Highest R (height C x) (DonorTo H (height C x) r) d → height C x r + 1 < height C x d →
-    Can-And-Always (Pulled x d r H) (λ y. LevelBut H (height C y) (only r))
+    Can-And-Always H (λ h. OneMoved R d r (height C x) h) (λ h. LevelBut H h (only r))
 
 abbrev pub Level-When-No-Donor-To-The-Rig-Is-More-Than-One-Higher : Type 0
 Level-When-No-Donor-To-The-Rig-Is-More-Than-One-Higher =

@@ -1,6 +1,8 @@
 //! A bounded list: entries of one kind in places that the caller lends.
 //! Promise: entries join after the last and are read by place; a full list takes no more and says so.
 //! Rests on nothing.
+#![tactic(auto)]
+
 ghost use Rattle.std.specs.Prelude.{◌≤◌, length};
 
 mod calls;

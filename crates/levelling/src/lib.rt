@@ -1,6 +1,8 @@
 //! The theory of levelling: why a level placement is the best one, and what keeps it level.
 //! Promise: each function stands for the theorem of its name, which is its contract, over any number of classes and rigs.
 //! Rests on nothing.
+#![tactic(auto)]
+
 mod bottleneck;
 mod changes;
 mod groups;

@@ -1,6 +1,8 @@
 //! Prints who may go where in a small hall, worked out by hand in `hall.rt`, and then what is refused and why.
 //! Promise: what is read of a list, or of a pile of three, is what its tables mean, or the first refusal.
 //! Rests on `rating`, `layers` and `sheet`, and on `rigset` and `levelling` below them.
+#![tactic(auto)]
+
 use sheet::{FillRefusal, ListSheet, Reading, Sheet};
 use std::io;
 

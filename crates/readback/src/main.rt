@@ -1,6 +1,8 @@
 //! Reads a script on standard input and writes each line as it was understood, or what is wrong with it.
 //! Promise: the lines come in order, each by its number, written again from the command that was read.
 //! Rests on `script`, for reading, writing and checking lines, and on `bounded`, for a list to check into.
+#![tactic(auto)]
+
 use script::TEXT_MAX;
 use std::io;
 use std::io::{Read, Write};

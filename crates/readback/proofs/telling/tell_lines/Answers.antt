@@ -12,7 +12,7 @@ pub loop-line-preserved : goal.loop-line-preserved
 loop-line-preserved c =
     let i = c.loop-line.invariant in
     let s = c.in-Some.ensures in
-    let t = c.in-ok-tell-line.ensures in
+    let t = c.in_ok-tell_line.ensures in
     let new = line_told (c.loop-line.count + 1) t.0 in (
       omega (arith, i.0, shorter c.loop-line.rest.now c.in-Some.line.now c.in-Some.tail.now s),
       omega (arith, i.1, ap length s.cut),
@@ -26,7 +26,7 @@ loop-line-preserved c =
 pub returns : goal.returns
 returns c =
     let i = c.loop-line.invariant in
-    let e = c.in-default.ensures in (
+    let e = c.in_default.ensures in (
       omega (arith, i.1, ap (λ (xs : List ℕ). length (lines xs)) e),
       (
         i.2.0,

@@ -6,7 +6,7 @@ use Rattle.script.proofs.draft.put_all.Goals as goal
 
 pub loop-b-preserved : goal.loop-b-preserved
 loop-b-preserved c =
-    extends_then _ _ _ _ _ _ (take_more c.args.bytes.now c.loop-b.b-index 0 c.loop-b-test.true) c.loop-b.invariant c.in-ok-put.ensures
+    extends_then _ _ _ _ _ _ (take_more c.args.bytes.now c.loop-b.b-index 0 c.loop-b-test.true) c.loop-b.invariant c.in_ok-put.ensures
 
 pub returns : goal.returns
 returns c =

@@ -9,27 +9,27 @@ abbrev said : Command → List ℕ
 said x = commas (fields (meaning x))
 
 pub returns-in-Hall : goal.returns-in-Hall
-returns-in-Hall c = wrote_as _ _ _ _ c.put-two.result (ap said c.in-Hall.is) c.put-two.ensures
+returns-in-Hall c = wrote_as _ _ _ _ c.put_two.result (ap said c.in-Hall.is) c.put_two.ensures
 
 pub returns-in-Add : goal.returns-in-Add
-returns-in-Add c = wrote_as _ _ _ _ c.put-two-in-Add.result (ap said c.in-Add.is) c.put-two-in-Add.ensures
+returns-in-Add c = wrote_as _ _ _ _ c.put_two-in-Add.result (ap said c.in-Add.is) c.put_two-in-Add.ensures
 
 pub returns-in-Withdraw : goal.returns-in-Withdraw
-returns-in-Withdraw c = wrote_as _ _ _ _ c.put-two-in-Withdraw.result (ap said c.in-Withdraw.is) c.put-two-in-Withdraw.ensures
+returns-in-Withdraw c = wrote_as _ _ _ _ c.put_two-in-Withdraw.result (ap said c.in-Withdraw.is) c.put_two-in-Withdraw.ensures
 
 pub returns-in-Take : goal.returns-in-Take
-returns-in-Take c = wrote_as _ _ _ _ c.put-one.result (ap said c.in-Take.is) c.put-one.ensures
+returns-in-Take c = wrote_as _ _ _ _ c.put_one.result (ap said c.in-Take.is) c.put_one.ensures
 
 pub returns-in-Shut : goal.returns-in-Shut
-returns-in-Shut c = wrote_as _ _ _ _ c.put-one-in-Shut.result (ap said c.in-Shut.is) c.put-one-in-Shut.ensures
+returns-in-Shut c = wrote_as _ _ _ _ c.put_one-in-Shut.result (ap said c.in-Shut.is) c.put_one-in-Shut.ensures
 
 pub returns-in-Open : goal.returns-in-Open
-returns-in-Open c = wrote_as _ _ _ _ c.put-one-in-Open.result (ap said c.in-Open.is) c.put-one-in-Open.ensures
+returns-in-Open c = wrote_as _ _ _ _ c.put_one-in-Open.result (ap said c.in-Open.is) c.put_one-in-Open.ensures
 
-pub returns-in-ok-put : goal.returns-in-ok-put
-returns-in-ok-put c =
-    wrote_then _ _ _ _ _ _ (ap said c.in-PumpType.is ∙ ap (λ (xs : List ℕ). 44 ∷ xs) (append-nil _)) c.in-ok-put.ensures c.put-mask.result c.put-mask.ensures
+pub returns-in_ok-put-in-PumpType : goal.returns-in_ok-put-in-PumpType
+returns-in_ok-put-in-PumpType c =
+    wrote_then _ _ _ _ _ _ (ap said c.in-PumpType.is ∙ ap (λ (xs : List ℕ). 44 ∷ xs) (append-nil _)) c.in_ok-put.ensures c.put_mask.result c.put_mask.ensures
 
-pub returns-in-ok-put-2 : goal.returns-in-ok-put-2
-returns-in-ok-put-2 c =
-    wrote_then _ _ _ _ _ _ (ap said c.in-Note.is ∙ ap (λ (xs : List ℕ). 44 ∷ xs) (append-nil _)) c.in-ok-put-2.ensures c.put-all.result c.put-all.ensures
+pub returns-in_ok-put-in-Note : goal.returns-in_ok-put-in-Note
+returns-in_ok-put-in-Note c =
+    wrote_then _ _ _ _ _ _ (ap said c.in-Note.is ∙ ap (λ (xs : List ℕ). 44 ∷ xs) (append-nil _)) c.in_ok-put-2.ensures c.put_all.result c.put_all.ensures

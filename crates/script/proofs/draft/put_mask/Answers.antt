@@ -17,18 +17,18 @@ loop-init c =
     let n : c.args.m.rigs ≡ c.args.m.rigs - 0 = omega arith in
     ([], extends_none c.args.draft.now, ap (λ (k : ℕ). shown mask (marks k c.args.m.set)) n)
 
-pub returns-in-err-put : goal.returns-in-err-put
-returns-in-err-put c =
+pub returns-in_err-put : goal.returns-in_err-put
+returns-in_err-put c =
     let i = c.loop.invariant in
     let all = next i.0 c.args.m.rigs c.loop.counter c.loop.left _ c.loop-test.true i.2 in
-    let over = overflows_then c.args.draft.now c.loop.draft c.loop.draft i.0 ((48 + c.loop.left % 2) ∷ []) _ refl i.1 c.in-err-put.ensures in
-    wrote_none _ _ _ _ c.from-residual.ensures.0 (overflows_front c.args.draft.now _ _ _ all over)
+    let over = overflows_then c.args.draft.now c.loop.draft c.loop.draft i.0 ((48 + c.loop.left % 2) ∷ []) _ refl i.1 c.in_err-put.ensures in
+    wrote_none _ _ _ _ c.from_residual.ensures.0 (overflows_front c.args.draft.now _ _ _ all over)
 
 pub loop-preserved : goal.loop-preserved
 loop-preserved c =
     let i = c.loop.invariant in (
       i.0 ++ (48 + c.loop.left % 2) ∷ [],
-      extends_then _ _ _ i.0 ((48 + c.loop.left % 2) ∷ []) _ refl i.1 c.in-ok-put.ensures,
+      extends_then _ _ _ i.0 ((48 + c.loop.left % 2) ∷ []) _ refl i.1 c.in_ok-put.ensures,
       next i.0 c.args.m.rigs c.loop.counter c.loop.left _ c.loop-test.true i.2,
     )
 

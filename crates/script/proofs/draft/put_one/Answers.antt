@@ -5,4 +5,4 @@ use Rattle.script.proofs.draft.put_one.Goals as goal
 
 pub returns : goal.returns
 returns c =
-    wrote_then _ _ _ _ _ _ (ap (λ (xs : List ℕ). 44 ∷ xs) (append-nil _)) c.in-ok-put.ensures c.put-number.result c.put-number.ensures
+    wrote_then _ _ _ _ _ _ (ap (λ (xs : List ℕ). 44 ∷ xs) (append-nil _)) c.in_ok-put.ensures c.put_number.result c.put_number.ensures

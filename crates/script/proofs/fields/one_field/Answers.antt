@@ -3,5 +3,5 @@ use Rattle.script.proofs.fields.one_field.Goals as goal
 
 pub returns : goal.returns
 returns g c =
-    let a = c.in-ok-value.ensures in
+    let a = c.in_ok-value.ensures in
     (a.0, a.1, only_one _ _ _ c.requires a.2)

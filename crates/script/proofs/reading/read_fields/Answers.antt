@@ -5,17 +5,6 @@ use Rattle.script.specs.Parts.{after}
 use Rattle.script.proofs.Cuts.{only_one}
 use Rattle.script.proofs.reading.read_fields.Goals as goal
 
-pub returns-in-ok-one-field : goal.returns-in-ok-one-field
-returns-in-ok-one-field c =
-    let a = c.in-ok-one-field.ensures in (
-      record {
-        same_word = sym c.in-PumpType.is;
-        same_fields = sym (a.2 ∙ ap (λ (f : List ℕ). f ∷ []) a.1.1);
-        fit = (a.1.0, tt);
-      },
-      a.1.2,
-    )
-
 pub returns-in-Report : goal.returns-in-Report
 returns-in-Report c =
     let n = c.requires ∙ ap (λ w. length (shape w)) c.in-Report.is in
@@ -26,8 +15,8 @@ returns-in-Note c =
     let n = c.requires ∙ ap (λ w. length (shape w)) c.in-Note.is in (
       record {
         same_word = sym c.in-Note.is;
-        same_fields = sym (only_one _ _ _ n c.next-field.ensures.parts);
-        fit = (c.next-field.ensures.whole, tt);
+        same_fields = sym (only_one _ _ _ n c.next_field.ensures.parts);
+        fit = (c.next_field.ensures.whole, tt);
       },
       tt,
     )

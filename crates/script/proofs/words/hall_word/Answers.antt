@@ -16,5 +16,5 @@ returns-in-82 c = begins (name Report) c.args.bytes.now (search rules) (search r
 pub returns-in-78 : goal.returns-in-78
 returns-in-78 c = begins (name Note) c.args.bytes.now (search rules) (search rules)
 
-pub returns-in-default : goal.returns-in-default
-returns-in-default c = (λ rest e. search rules, λ rest e. search rules, λ rest e. search rules, λ rest e. search rules)
+pub returns-in_default : goal.returns-in_default
+returns-in_default c = (λ rest e. search rules, λ rest e. search rules, λ rest e. search rules, λ rest e. search rules)

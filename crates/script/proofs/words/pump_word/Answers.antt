@@ -10,5 +10,5 @@ returns-in-65 c = begins (name Add) c.args.bytes.now (search rules) (search rule
 pub returns-in-87 : goal.returns-in-87
 returns-in-87 c = begins (name Withdraw) c.args.bytes.now (search rules) (search rules)
 
-pub returns-in-default : goal.returns-in-default
-returns-in-default c = (λ rest e. search rules, λ rest e. search rules)
+pub returns-in_default : goal.returns-in_default
+returns-in_default c = (λ rest e. search rules, λ rest e. search rules)

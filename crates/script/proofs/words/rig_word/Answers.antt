@@ -13,5 +13,5 @@ returns-in-83 c = begins (name Shut) c.args.bytes.now (search rules) (search rul
 pub returns-in-79 : goal.returns-in-79
 returns-in-79 c = begins (name Open) c.args.bytes.now (search rules) (search rules)
 
-pub returns-in-default : goal.returns-in-default
-returns-in-default c = (λ rest e. search rules, λ rest e. search rules, λ rest e. search rules)
+pub returns-in_default : goal.returns-in_default
+returns-in_default c = (λ rest e. search rules, λ rest e. search rules, λ rest e. search rules)

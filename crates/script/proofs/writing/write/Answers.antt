@@ -16,31 +16,31 @@ drafted empty full text m e x t = t ∙ x.held ∙ ap (λ (xs : List ℕ). xs ++
 past : (n : ℕ) (xs : List ℕ) → post_of 0 (n - 0) xs ≡ drop n xs
 past n xs = let e : n - 0 ≡ n = omega arith in ap (λ (k : ℕ). drop k xs) e
 
-pub returns-in-default : goal.returns-in-default
-returns-in-default c =
+pub returns-in_default : goal.returns-in_default
+returns-in_default c =
     let n : length (spare c.new-draft.result) ≡ 81 = ap length (all_spare c.new-draft.result c.new-draft.ensures.empty ∙ c.new-draft.ensures.untouched) in
-    (refl, too_long (meaning c.args.command) (omega (arith, c.in-default.ensures)))
+    (refl, too_long (meaning c.args.command) (omega (arith, c.in_default.ensures)))
 
 pub unreachable-requires : goal.unreachable-requires
 unreachable-requires c =
-    let t = drafted _ _ _ (meaning c.args.command) c.new-draft.ensures.empty c.in-Ok.ensures c.as-slice-line.ensures in
+    let t = drafted _ _ _ (meaning c.args.command) c.new-draft.ensures.empty c.in-Ok.ensures c.as_slice-line.ensures in
     word_known (meaning c.args.command) c.in-Err.fault.field
     (subst (λ (x : Cause). Faulty (line (meaning c.args.command)) x c.in-Err.fault.field) c.in-UnknownWord.is
     (subst (λ (l : List ℕ). Faulty l c.in-Err.fault.cause c.in-Err.fault.field) t c.in-Err.ensures.judged))
 
 pub returns-then-out-n : goal.returns-then-out-n
 returns-then-out-n c =
-    let t = drafted _ _ _ (meaning c.args.command) c.new-draft.ensures.empty c.in-Ok.ensures c.as-slice-line.ensures in
+    let t = drafted _ _ _ (meaning c.args.command) c.new-draft.ensures.empty c.in-Ok.ensures c.as_slice-line.ensures in
     let s : Sized c.args.command = search rules in
-    let a = subst (λ (l : List ℕ). Accepted l (meaning c.in-default-read.field-0)) t c.in-default-read.ensures.judged in
+    let a = subst (λ (l : List ℕ). Accepted l (meaning c.in_default-read.field-0)) t c.in_default-read.ensures.judged in
     (refl, (reads_itself c.args.command s _ a, subst (λ (l : List ℕ). length c.args.out.now < length l) t c.if-out-n.true))
 
 pub returns : goal.returns
 returns c =
-    let t = drafted _ _ _ (meaning c.args.command) c.new-draft.ensures.empty c.in-Ok.ensures c.as-slice-line.ensures in
+    let t = drafted _ _ _ (meaning c.args.command) c.new-draft.ensures.empty c.in-Ok.ensures c.as_slice-line.ensures in
     let s : Sized c.args.command = search rules in
-    let a = subst (λ (l : List ℕ). Accepted l (meaning c.in-default-read.field-0)) t c.in-default-read.ensures.judged in
+    let a = subst (λ (l : List ℕ). Accepted l (meaning c.in_default-read.field-0)) t c.in_default-read.ensures.judged in
     written c.args.out.now _ (meaning c.args.command) _ (ap length t) c.if-out-n.false
-    (ap (λ (xs : List ℕ). xs ++ post_of 0 (length c.as-slice-line.result.now - 0) c.args.out.now) (c.copy-from-slice.ensures.after ∙ t)
-    ∙ ap (λ (xs : List ℕ). line (meaning c.args.command) ++ xs) (past (length c.as-slice-line.result.now) c.args.out.now))
+    (ap (λ (xs : List ℕ). xs ++ post_of 0 (length c.as_slice-line.result.now - 0) c.args.out.now) (c.copy_from_slice.ensures.after ∙ t)
+    ∙ ap (λ (xs : List ℕ). line (meaning c.args.command) ++ xs) (past (length c.as_slice-line.result.now) c.args.out.now))
     (reads_itself c.args.command s _ a)

@@ -4,8 +4,8 @@ use Rattle.script.proofs.Numerals.{Bit, Tail, length_marks, masked_of, tail_none
 use Rattle.script.proofs.fields.MaskFieldValue.parse.Goals as goal
 use Rattle.script.proofs.fields.MaskFieldValue.parse.Goals.{then-b-lt48-via-then-b-lt48, then-b-lt48-via-else-b-lt48+then-b-gt49}
 
-pub returns-then-is-empty : goal.returns-then-is-empty
-returns-then-is-empty c g = let q = masked_of c.args.field.now g in search rules
+pub returns-then-is_empty : goal.returns-then-is_empty
+returns-then-is_empty c g = let q = masked_of c.args.field.now g in search rules
 
 pub loop-r-init : goal.loop-r-init
 loop-r-init c = tail_none c.args.field.now
@@ -31,4 +31,4 @@ returns c =
     let n = length_marks (length c.args.field.now) c.loop-r.set in
     let z : c.loop-r.r ≡ 0 = omega arith in
     let t = tail_all c.args.field.now c.loop-r.set (subst (λ (r : ℕ). Tail c.args.field.now r c.loop-r.set) z c.loop-r.invariant) in
-    ((omega (arith, n), omega (arith, n, c.if-field-gt-MASK-MAX.false)), t.1, t.0)
+    ((omega (arith, n), omega (arith, n, c.if-field-gt-MASK_MAX.false)), t.1, t.0)

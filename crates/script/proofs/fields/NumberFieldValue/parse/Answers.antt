@@ -15,8 +15,8 @@ returns-in-48 c g =
     let one = q.canon z in
     search rules
 
-pub returns-then-is-empty : goal.returns-then-is-empty
-returns-then-is-empty c g = let q = numeric_of c.args.field.now g in search rules
+pub returns-then-is_empty : goal.returns-then-is_empty
+returns-then-is_empty c g = let q = numeric_of c.args.field.now g in search rules
 
 pub returns-then-b-lt48 : goal.returns-then-b-lt48
 returns-then-b-lt48 c g =
@@ -24,13 +24,13 @@ returns-then-b-lt48 c g =
     let p = digit_at c.args.field.now c.loop-b.b-index q.digits c.loop-b-test.true in
     elim c.then-b-lt48.branch [ then-b-lt48-via-then-b-lt48 w ↦ omega (arith, p) | then-b-lt48-via-else-b-lt48+then-b-gt57 w ↦ omega (arith, p) ]
 
-pub overflow-mul-n : goal.overflow-mul-n
-overflow-mul-n c =
+pub overflow_mul-n : goal.overflow_mul-n
+overflow_mul-n c =
     let k : length (take c.loop-b.b-index c.args.field.now) ≤ 5 = simp length-take (omega arith) in
     omega (arith, short_value (take c.loop-b.b-index c.args.field.now) c.loop-b.invariant.1 k)
 
-pub overflow-add-n : goal.overflow-add-n
-overflow-add-n c =
+pub overflow_add-n : goal.overflow_add-n
+overflow_add-n c =
     let k : length (take c.loop-b.b-index c.args.field.now) ≤ 5 = simp length-take (omega arith) in
     omega (arith, short_value (take c.loop-b.b-index c.args.field.now) c.loop-b.invariant.1 k)
 
@@ -48,7 +48,7 @@ returns-then-n-le65535 c =
     let v : c.loop-b.n ≡ digits_value 10 c.args.field.now = c.loop-b.invariant.0 ∙ ap (digits_value 10) t in
     let s : 0 < length c.args.field.now = search rules in
     let z : get_or c.args.field.now 0 0 ≡ 48 → length c.args.field.now ≡ 1 = λ e. search rules in
-    (c.if-n-le65535.true, numeral_of c.args.field.now d s c.if-field-gt-DIGITS-MAX.false z ∙ ap decimal (sym v))
+    (c.if-n-le65535.true, numeral_of c.args.field.now d s c.if-field-gt-DIGITS_MAX.false z ∙ ap decimal (sym v))
 
 pub returns-else-n-le65535 : goal.returns-else-n-le65535
 returns-else-n-le65535 c g =

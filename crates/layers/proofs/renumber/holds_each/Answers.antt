@@ -4,6 +4,6 @@ use Rattle.layers.proofs.renumber.holds_each.Goals as goal
 
 pub returns : goal.returns
 returns c =
-    Decides-at c.is-subset.result _ c.is-subset.ensures
+    Decides-at c.is_subset.result _ c.is_subset.ensures
     (each_once_decides c.args.rigs c.below.result.word c.named.result.word c.args.order.now c.requires.0
     c.requires.1 c.below.ensures c.named.ensures)

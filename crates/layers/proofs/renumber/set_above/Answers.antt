@@ -14,7 +14,7 @@ pub loop-rig-preserved : goal.loop-rig-preserved
 loop-rig-preserved c =
     let test : ℕ → Bool = λ r. has c.args.below.word (rig_below c.args.order.now r) in
     let rig = c.loop-rig.rig in
-    let at : c.contains.result ≡ test rig = c.contains.ensures.answer ∙ ap (has c.args.below.word) c.rig-below.ensures in
+    let at : c.contains.result ≡ test rig = c.contains.ensures.answer ∙ ap (has c.args.below.word) c.rig_below.ensures in
     let before = c.loop-rig.invariant in
     elim c.if-contains.branch [
       | then-contains w ↦

@@ -20,14 +20,14 @@ returns c =
     let low : SheetMeaning = rating_meaning c.over-approval.result.below in
     let mid : SheetMeaning = approval_meaning rating_meaning c.over-pile.result.below in
     let top : SheetMeaning = renumber_meaning (approval_meaning rating_meaning) c.fill-3.new.self in
-    let approval = c.in-ok-fill-2.ensures in
-    let pile = c.in-ok-fill-3.ensures in
-    let first : low ≡ base = ap rating_meaning c.over-approval.ensures.below ∙ c.in-ok-fill.ensures.means in
+    let approval = c.in_ok-fill-2.ensures in
+    let pile = c.in_ok-fill-3.ensures in
+    let first : low ≡ base = ap rating_meaning c.over-approval.ensures.below ∙ c.in_ok-fill.ensures.means in
     let second : mid ≡ approved approvals base =
     ap (approval_meaning rating_meaning) c.over-pile.ensures.below ∙ approval.means ∙ ap (approved approvals) first in
     let third : top ≡ renumbered order (approved approvals base) = pile.means ∙ ap (renumbered order) second in (
-      c.in-ok-fill.ensures.judged,
+      c.in_ok-fill.ensures.judged,
       at (λ m. ApprovalsJudged m approvals (Ok tt)) low base first approval.judged,
       at (λ m. OrderJudged m order (Ok tt)) mid (approved approvals base) second pile.judged,
-      at (λ m. Reads m c.read-sheet.result) top (renumbered order (approved approvals base)) third c.read-sheet.ensures,
+      at (λ m. Reads m c.read_sheet.result) top (renumbered order (approved approvals base)) third c.read_sheet.ensures,
     )

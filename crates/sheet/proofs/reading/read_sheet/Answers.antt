@@ -1,7 +1,7 @@
 use Rattle.std.proofs.Common.{◌<◌, arith}
 use Rattle.sheet.proofs.Filling.{filled_none, filled_more}
 use Rattle.sheet.proofs.reading.read_sheet.Goals as goal
-use Rattle.sheet.proofs.reading.read_sheet.Goals.{in-Ok, in-default}
+use Rattle.sheet.proofs.reading.read_sheet.Goals.{in-Ok, in_default}
 
 pub loop-kind-init : goal.loop-kind-init
 loop-kind-init g c =
@@ -16,7 +16,7 @@ loop-kind-preserved g c =
       | in-Ok w ↦
           rw w.permitted-is
           (filled_more c.loop-kind.permitted m.permitted kind w.in-Ok.set small w.in-Ok.ensures.1 c.loop-kind.invariant)
-      | in-default w ↦ absurd (omega (arith, c.types-types.ensures, w.in-default.ensures.0))
+      | in_default w ↦ absurd (omega (arith, c.types-types.ensures, w.in_default.ensures.0))
     ]
 
 pub returns : goal.returns

@@ -4,11 +4,11 @@ use Rattle.rigset.proofs.Digits.{has_past}
 use Rattle.rigset.proofs.Operations.{digit_has}
 use Rattle.rigset.proofs.set.RigSet.contains.Goals as goal
 
-pub returns-then-rig-lt-RIGS-MAX : goal.returns-then-rig-lt-RIGS-MAX
-returns-then-rig-lt-RIGS-MAX c =
-    record { answer = digit_has c.args.self.word c.args.rig; within = λ _. c.if-rig-lt-RIGS-MAX.true }
+pub returns-then-rig-lt-RIGS_MAX : goal.returns-then-rig-lt-RIGS_MAX
+returns-then-rig-lt-RIGS_MAX c =
+    record { answer = digit_has c.args.self.word c.args.rig; within = λ _. c.if-rig-lt-RIGS_MAX.true }
 
-pub returns-else-rig-lt-RIGS-MAX : goal.returns-else-rig-lt-RIGS-MAX
-returns-else-rig-lt-RIGS-MAX c =
+pub returns-else-rig-lt-RIGS_MAX : goal.returns-else-rig-lt-RIGS_MAX
+returns-else-rig-lt-RIGS_MAX c =
     let out = has_past 64 c.args.self.word c.args.rig (omega arith) (omega arith) in
     record { answer = le-ltb c.args.rig 64 (omega arith) ∙ sym out; within = search rules }

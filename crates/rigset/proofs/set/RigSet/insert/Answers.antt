@@ -2,15 +2,15 @@ use Rattle.std.proofs.Common.{sym, arith}
 use Rattle.std.proofs.lemmas.Bool.Decides.{nat_tests}
 use Rattle.rigset.proofs.Operations.{insert_new, insert_past, insert_old}
 use Rattle.rigset.proofs.set.RigSet.insert.Goals as goal
-use Rattle.rigset.proofs.set.RigSet.insert.Goals.{then-rig-ge-RIGS-MAX-via-then-rig-ge-RIGS-MAX, then-rig-ge-RIGS-MAX-via-else-rig-ge-RIGS-MAX+then-contains}
+use Rattle.rigset.proofs.set.RigSet.insert.Goals.{then-rig-ge-RIGS_MAX-via-then-rig-ge-RIGS_MAX, then-rig-ge-RIGS_MAX-via-else-rig-ge-RIGS_MAX+then-contains}
 
-pub returns-then-rig-ge-RIGS-MAX : goal.returns-then-rig-ge-RIGS-MAX
-returns-then-rig-ge-RIGS-MAX c =
+pub returns-then-rig-ge-RIGS_MAX : goal.returns-then-rig-ge-RIGS_MAX
+returns-then-rig-ge-RIGS_MAX c =
     let m = c.args.self.now.word in
     let rig = c.args.rig in
-    elim c.then-rig-ge-RIGS-MAX.branch [
-      | then-rig-ge-RIGS-MAX-via-then-rig-ge-RIGS-MAX w ↦ record { set = insert_past m rig (omega arith); answer = grind (arith, nat_tests) }
-      | then-rig-ge-RIGS-MAX-via-else-rig-ge-RIGS-MAX+then-contains w ↦
+    elim c.then-rig-ge-RIGS_MAX.branch [
+      | then-rig-ge-RIGS_MAX-via-then-rig-ge-RIGS_MAX w ↦ record { set = insert_past m rig (omega arith); answer = grind (arith, nat_tests) }
+      | then-rig-ge-RIGS_MAX-via-else-rig-ge-RIGS_MAX+then-contains w ↦
           let in_set = sym w.if-contains.ensures.answer in
           record { set = insert_old m rig in_set; answer = grind (arith, nat_tests) }
     ]

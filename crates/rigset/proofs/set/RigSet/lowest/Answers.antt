@@ -6,4 +6,4 @@ use Rattle.rigset.proofs.set.RigSet.lowest.Goals as goal
 pub returns : goal.returns
 returns c =
     let m = c.args.self.word in
-    trailing_lowest m (some_rig m c.is-empty.result c.is-empty.ensures c.if-is-empty.false) (omega arith)
+    trailing_lowest m (some_rig m c.is_empty.result c.is_empty.ensures c.if-is_empty.false) (omega arith)

@@ -3,4 +3,4 @@ use Rattle.sheet.proofs.Bounds.{none_within}
 use Rattle.sheet.proofs.list.ListSheet.new.Goals as goal
 
 pub invariant_of-result : goal.invariant_of-result
-invariant_of-result c = ((omega arith, omega arith, omega arith, omega arith), (none_within _, tt))
+invariant_of-result c = record { shaped = (omega arith, omega arith, omega arith, omega arith); within = none_within _ }

@@ -3,7 +3,7 @@ use Rattle.std.proofs.Common.{◌≡◌, ℕ, ◌<◌, List, [], ◌∷◌, ◌+
 use Rattle.std.specs.List.{AllByRecursion}
 use Rattle.script.specs.Verdicts.{Judged, verdict, Tidy}
 use Rattle.script.specs.declared.command.Command.{Command}
-use Rattle.script.specs.Format.{Meaning, meaning, name, shape, fields, front, commas, Commaless, WellFormed, Accepted, Parted, Faulty}
+use Rattle.script.specs.Format.{Meaning, meaning, name, shape, front, commas, Commaless, WellFormed, Accepted, Parted, Faulty}
 use Rattle.script.specs.Parts.{parts, Says, Misfit}
 use Rattle.script.specs.declared.command.Word.{Word}
 use Rattle.script.specs.declared.faults.Cause.{Cause}

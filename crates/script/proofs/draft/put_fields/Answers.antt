@@ -28,8 +28,8 @@ returns-in-Open c = wrote_as _ _ _ _ c.put_one-in-Open.result (ap said c.in-Open
 
 pub returns-in_ok-put-in-PumpType : goal.returns-in_ok-put-in-PumpType
 returns-in_ok-put-in-PumpType c =
-    wrote_then _ _ _ _ _ _ (ap said c.in-PumpType.is ∙ ap (λ (xs : List ℕ). 44 ∷ xs) (append-nil _)) c.in_ok-put.ensures c.put_mask.result c.put_mask.ensures
+    wrote_then _ _ _ _ _ _ (ap said c.in-PumpType.is ∙ ap (λ (xs : List ℕ). 44 ∷ xs) (append-nil _)) c.in_ok-put-in-PumpType.ensures c.put_mask.result c.put_mask.ensures
 
 pub returns-in_ok-put-in-Note : goal.returns-in_ok-put-in-Note
 returns-in_ok-put-in-Note c =
-    wrote_then _ _ _ _ _ _ (ap said c.in-Note.is ∙ ap (λ (xs : List ℕ). 44 ∷ xs) (append-nil _)) c.in_ok-put-2.ensures c.put_all.result c.put_all.ensures
+    wrote_then _ _ _ _ _ _ (ap said c.in-Note.is ∙ ap (λ (xs : List ℕ). 44 ∷ xs) (append-nil _)) c.in_ok-put-in-Note.ensures c.put_all.result c.put_all.ensures

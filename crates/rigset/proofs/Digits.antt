@@ -1,6 +1,5 @@
 -- The rigs of a word, digit by digit.
 use Rattle.std.proofs.Common.{◌≡◌, ℕ, zero, suc, ◌-◌, ◌/◌, ◌%◌, ◌^◌, ◌<◌, ◌≤◌, min, max, true, false, not, ◌&&◌, ◌||◌, eqb, ltb, sym, refl, ap, ◌∙◌, inl, inr, mod-lt, zero-lt-suc, pow-suc, div-one, one-add, arith, pow_pos, shr-shr}
-use lib.Arith.{digits_mod}
 use lib.Bits.{bit_and, bit_or, and_shr, or_shr, and_step, or_step}
 use lib.Count.{count_trailing_zeros, under}
 use Rattle.std.proofs.lemmas.Bool.{both_ways, cases_lt}
@@ -58,22 +57,18 @@ unfolding has
 has_and a b r =
     let x = a / 2 ^ r in
     let y = b / 2 ^ r in
-    let p = mod-lt x (zero-lt-suc 1) in
-    let q = mod-lt y (zero-lt-suc 1) in
-    let small : min (x % 2) (y % 2) < 2 = omega arith in
-    ap (λ (n : ℕ). eqb (n % 2) 1) (and_shr a b r ∙ and_step x y)
-    ∙ ap (λ (n : ℕ). eqb n 1) (digits_mod (bit_and (x / 2) (y / 2)) small) ∙ both_digits (x % 2) (y % 2) p q
+    let low : bit_and x y % 2 ≡ min (x % 2) (y % 2) = omega (arith, and_step x y) in
+    ap (λ (n : ℕ). eqb (n % 2) 1) (and_shr a b r) ∙ ap (λ (n : ℕ). eqb n 1) low
+    ∙ both_digits (x % 2) (y % 2) (omega arith) (omega arith)
 
 pub has_or : (a b r : ℕ) → has (bit_or a b) r ≡ (has a r || has b r)
 unfolding has
 has_or a b r =
     let x = a / 2 ^ r in
     let y = b / 2 ^ r in
-    let p = mod-lt x (zero-lt-suc 1) in
-    let q = mod-lt y (zero-lt-suc 1) in
-    let small : max (x % 2) (y % 2) < 2 = omega arith in
-    ap (λ (n : ℕ). eqb (n % 2) 1) (or_shr a b r ∙ or_step x y)
-    ∙ ap (λ (n : ℕ). eqb n 1) (digits_mod (bit_or (x / 2) (y / 2)) small) ∙ either_digit (x % 2) (y % 2) p q
+    let low : bit_or x y % 2 ≡ max (x % 2) (y % 2) = omega (arith, or_step x y) in
+    ap (λ (n : ℕ). eqb (n % 2) 1) (or_shr a b r) ∙ ap (λ (n : ℕ). eqb n 1) low
+    ∙ either_digit (x % 2) (y % 2) (omega arith) (omega arith)
 
 -- the digits of !m, where m has k digits
 pub has_not : (k m r : ℕ) → m < 2 ^ k → r < k → has (2 ^ k - 1 - m) r ≡ not (has m r)

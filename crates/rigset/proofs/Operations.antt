@@ -35,6 +35,13 @@ remove_none m n h r = out (has m r) (λ e. ap (has m) e ∙ h)
     out : (b : Bool) → (r ≡ n → b ≡ false) → b ≡ (b && not (eqb r n))
     out b f = grind (arith, nat_tests)
 
+-- the rigs below a number
+pub is_first : (n r : ℕ) → n ≤ 64 → r < n → first_rigs n r ≡ true
+is_first n r few h = grind (arith, nat_tests)
+
+pub first_is : (n r : ℕ) → first_rigs n r ≡ true → r < n
+first_is n r e = grind (arith, nat_tests)
+
 pub below_few : (n : ℕ) → n < 64 → RigsAre ((1 * 2 ^ n) % 2 ^ 64 - 1) (first_rigs n)
 below_few n h r =
     let e : ltb r n ≡ (ltb r n && ltb r 64) = grind (arith, nat_tests) in

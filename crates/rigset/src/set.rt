@@ -7,7 +7,7 @@ ghost use Rattle.rigset.specs.Sets.{limit, has, RigsAre, rig_numbered, first_rig
 pub const RIGS_MAX: usize = 64;
 
 /// A set of rigs: rig r counts 2 to the power r. Every word is one.
-#[derive(Clone, Copy)]
+#[derive(Clone, Copy, PartialEq, Eq, Debug)]
 pub struct RigSet {
     pub word: u64,
 }

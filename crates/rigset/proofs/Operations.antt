@@ -36,8 +36,8 @@ remove_none m n h r = out (has m r) (λ e. ap (has m) e ∙ h)
     out b f = grind (arith, nat_tests)
 
 -- the rigs below a number
-pub is_first : (n r : ℕ) → n ≤ 64 → r < n → first_rigs n r ≡ true
-is_first n r few h = grind (arith, nat_tests)
+pub is_first : (n r : ℕ) → r < n → r < 64 → first_rigs n r ≡ true
+is_first n r below small = grind (arith, nat_tests)
 
 pub first_is : (n r : ℕ) → first_rigs n r ≡ true → r < n
 first_is n r e = grind (arith, nat_tests)

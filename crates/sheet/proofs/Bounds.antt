@@ -1,11 +1,12 @@
 -- Sets within the rigs of a sheet.
-use Rattle.std.proofs.Common.{◌≡◌, ℕ, zero, suc, ◌^◌, ◌<◌, true, [], ◌∷◌, Decides, sym, ◌∙◌, arith}
+use Rattle.std.proofs.Common.{ℕ, zero, suc, ◌^◌, ◌<◌, [], ◌∷◌, Decides, sym, ◌∙◌, arith}
 use Rattle.std.proofs.lemmas.Bool.{both_ways}
-use Rattle.std.proofs.lemmas.Bool.Decides.{nat_tests, Decides-like}
+use Rattle.std.proofs.lemmas.Bool.Decides.{Decides-like}
 use Rattle.levelling.specs.Sums.{inside}
 use Rattle.levelling.proofs.Sums.{inside_decides}
 use Rattle.rigset.specs.Sets.{limit, has, RigsAre, first_rigs, AllBelow}
 use Rattle.rigset.proofs.Digits.{has_none, has_within}
+use Rattle.rigset.proofs.Operations.{first_is, is_first}
 use Rattle.rigset.proofs.Counts.{limit_is}
 use Rattle.sheet.specs.Meaning.{AllWithin}
 
@@ -19,12 +20,6 @@ pub subset_within : (w all rigs : ℕ) → w < 2 ^ 64 → RigsAre all (first_rig
     Decides (inside limit (has w) (has all)) (AllBelow rigs (has w))
 subset_within w all rigs small holds =
     Decides-like (inside limit (has w) (has all))
-    (λ s r t. is_below r (sym (holds r) ∙ s r (omega (arith, limit_is, has_within 64 w r small t)) t))
-    (λ p r l t. holds r ∙ below_is r (p r t) (omega (arith, limit_is)))
+    (λ s r t. first_is rigs r (sym (holds r) ∙ s r (omega (arith, limit_is, has_within 64 w r small t)) t))
+    (λ p r l t. holds r ∙ is_first rigs r (p r t) (omega (arith, limit_is)))
     (inside_decides limit (has w) (has all))
-  where
-    is_below : (r : ℕ) → first_rigs rigs r ≡ true → r < rigs
-    is_below r e = grind (arith, nat_tests)
-
-    below_is : (r : ℕ) → r < rigs → r < 64 → first_rigs rigs r ≡ true
-    below_is r h k = grind (arith, nat_tests)

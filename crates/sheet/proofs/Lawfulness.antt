@@ -1,8 +1,8 @@
 -- Meanings that a sheet may have.
-use Rattle.std.proofs.Common.{◌≡◌, ℕ, ◌<◌, Bool, true, ◌&&◌, arith}
-use Rattle.std.proofs.lemmas.Bool.Decides.{nat_tests}
+use Rattle.std.proofs.Common.{◌≡◌, ℕ, Bool, true, ◌&&◌, arith}
 use Rattle.levelling.specs.Sums.{Group}
 use Rattle.rigset.specs.Sets.{first_rigs}
+use Rattle.rigset.proofs.Operations.{first_is}
 use Rattle.sheet.specs.Meaning.{SheetMeaning, Shaped, Lawful, permitting, narrowed}
 
 first : (a b : Bool) → (a && b) ≡ true → a ≡ true
@@ -13,10 +13,7 @@ second a b e = grind arith
 
 pub permitting_lawful : (rigs types : ℕ) (test : ℕ → Group) → Shaped rigs types → Lawful (permitting rigs types test)
 permitting_lawful rigs types test shaped =
-    record { shaped = shaped; within = λ t h r e. below r (first (first_rigs rigs r) (test t r) e) }
-  where
-    below : (r : ℕ) → first_rigs rigs r ≡ true → r < rigs
-    below r e = grind (arith, nat_tests)
+    record { shaped = shaped; within = λ t h r e. first_is rigs r (first (first_rigs rigs r) (test t r) e) }
 
 pub narrowed_lawful : (test : ℕ → Group) (m : SheetMeaning) → Lawful m → Lawful (narrowed test m)
 narrowed_lawful test m lawful = record {

@@ -10,6 +10,11 @@ use Rattle.sheet.specs.declared.reading.Reading.{Reading}
 abbrev pub word_at : List RigSet → ℕ → ℕ
 word_at sets t = (slice_index_or sets t (record { word = 0 })).word
 
+-- The set is the permitted set of the type t, or the empty set if t is no type.
+pub record PermittedOf (m : SheetMeaning) (t : ℕ) (set : RigSet) : Type 0 where
+  pub permitted : t < m.types → RigsAre set.word (m.permitted t)
+  pub spare : m.types ≤ t → RigsAre set.word no_rig
+
 -- The reading has the sheet's number of rigs, its number of types, the permitted set of each type, and for numbers that
 -- are no type the empty set.
 pub record Reads (m : SheetMeaning) (read : Reading) : Type 0 where

@@ -1,7 +1,6 @@
 ghost use Rattle.std.specs.Prelude.{◌≡◌};
 ghost use Rattle.sheet.specs.Meaning.{SheetMeaning, Lawful};
 ghost use Rattle.sheet.specs.Answers.{Permits};
-ghost use Rattle.sheet.specs.Numbers.{permitted_number};
 
 use rigset::RigSet;
 
@@ -9,18 +8,20 @@ use rigset::RigSet;
 pub const TYPES_MAX: usize = 64;
 
 /// Why a sheet gives no permitted set. The value is the number by which the refusal is told.
-#[derive(Clone, Copy)]
+#[derive(Clone, Copy, PartialEq, Eq, Debug)]
 pub enum PermittedRefusal {
     /// The sheet has no type of that number.
     NoSuchType = 4,
 }
 
-impl PermittedRefusal {
-    /// The number by which the refusal is told.
-    pub fn number(self) -> u8
-        ensures { result ≡ permitted_number self }
-    {
-        self as u8
+/// The number by which the refusal is told.
+impl From<PermittedRefusal> for u8 {
+    ghost use Rattle.sheet.specs.Numbers.{permitted_number};
+
+    ghost from_gives = { λ refusal n. n ≡ permitted_number refusal };
+
+    fn from(refusal: PermittedRefusal) -> u8 {
+        refusal as u8
     }
 }
 
@@ -28,9 +29,6 @@ impl PermittedRefusal {
 pub trait Sheet {
     /// What the sheet means.
     ghost meaning: { Self → SheetMeaning };
-
-    /// From 1 to 64 rigs, from 1 to 64 types, and each permitted set within the rigs.
-    ghost lawful: { (s : Self) → Lawful (meaning s) };
 
     /// How many rigs there are.
     fn rigs(&self) -> usize
@@ -43,4 +41,7 @@ pub trait Sheet {
     /// The rigs that may test pumps of a type; refused if there is no such type.
     fn permitted(&self, kind: usize) -> Result<RigSet, PermittedRefusal>
         ensures { Permits (meaning self.now) kind result };
+
+    /// From 1 to 64 rigs, from 1 to 64 types, and each permitted set within the rigs.
+    ghost lawful: { (s : Self) → Lawful (meaning s) };
 }

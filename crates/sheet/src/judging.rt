@@ -8,7 +8,7 @@ use crate::interface::TYPES_MAX;
 use rigset::{RIGS_MAX, RigSet};
 
 /// Why a sheet or a layer was not filled. The value is the number by which the refusal is told.
-#[derive(Clone, Copy)]
+#[derive(Clone, Copy, PartialEq, Eq, Debug)]
 pub enum FillRefusal {
     /// The rigs or the types are not 1 to 64, or a table has not exactly one entry for each rig, or for each type.
     BadShape = 1,
@@ -18,12 +18,14 @@ pub enum FillRefusal {
     NotEachRigOnce = 3,
 }
 
-impl FillRefusal {
-    /// The number by which the refusal is told.
-    pub fn number(self) -> u8
-        ensures { result ≡ fill_number self }
-    {
-        self as u8
+/// The number by which the refusal is told.
+impl From<FillRefusal> for u8 {
+    ghost use Rattle.sheet.specs.Numbers.{fill_number};
+
+    ghost from_gives = { λ refusal n. n ≡ fill_number refusal };
+
+    fn from(refusal: FillRefusal) -> u8 {
+        refusal as u8
     }
 }
 
@@ -45,10 +47,5 @@ fn is_within(rigs: usize, word: u64) -> bool
 pub fn all_within(rigs: usize, sets: &[u64]) -> bool
     ensures { Decides result (AllWithin rigs sets.now) }
 {
-    for word in sets {
-        if !is_within(rigs, *word) {
-            return false;
-        }
-    }
-    true
+    sets.iter().all(|word| is_within(rigs, *word))
 }

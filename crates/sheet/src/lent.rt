@@ -8,14 +8,14 @@ impl<S: Sheet> Sheet for &S {
     ghost lawful = { λ s. S.Sheet.lawful s.now };
 
     fn rigs(&self) -> usize {
-        S::rigs(*self)
+        (**self).rigs()
     }
 
     fn types(&self) -> usize {
-        S::types(*self)
+        (**self).types()
     }
 
     fn permitted(&self, kind: usize) -> Result<RigSet, PermittedRefusal> {
-        S::permitted(*self, kind)
+        (**self).permitted(kind)
     }
 }

@@ -1,7 +1,8 @@
-ghost use Rattle.sheet.specs.Readings.{Reads};
+ghost use Rattle.sheet.specs.Readings.{PermittedOf, Reads};
 
 use crate::interface::{Sheet, TYPES_MAX};
 use rigset::RigSet;
+use std::array;
 
 /// What was read of a whole sheet: its rigs, its types, and the permitted set of each type. The places past the last
 /// type have the empty set.
@@ -12,22 +13,20 @@ pub struct Reading {
     pub permitted: [RigSet; TYPES_MAX],
 }
 
+// The permitted set of a type; of a number that is no type, the empty set.
+fn permitted_of<S: Sheet>(sheet: &S, kind: usize) -> RigSet
+    ensures { PermittedOf (S.Sheet.meaning sheet.now) kind result }
+{
+    sheet.permitted(kind).unwrap_or(RigSet::new())
+}
+
 /// Reads a whole sheet, whatever it is made of.
 pub fn read_sheet<S: Sheet>(sheet: &S) -> Reading
     ensures { Reads (S.Sheet.meaning sheet.now) result }
 {
-    let rigs = sheet.rigs();
-    let types = sheet.types();
-    let mut permitted = [RigSet::new(); TYPES_MAX];
-    // No question is refused: each kind is below the number of types.
-    for kind in 0..types {
-        if let Ok(set) = sheet.permitted(kind) {
-            permitted[kind] = set;
-        }
-    }
     Reading {
-        rigs,
-        types,
-        permitted,
+        rigs: sheet.rigs(),
+        types: sheet.types(),
+        permitted: array::from_fn(|kind| permitted_of(sheet, kind)),
     }
 }

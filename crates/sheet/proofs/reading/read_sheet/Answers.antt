@@ -1,28 +1,26 @@
-use Rattle.std.proofs.Common.{◌<◌, arith}
-use Rattle.sheet.proofs.Filling.{filled_none, filled_more}
+use Rattle.std.proofs.Common.{◌≡◌, refl, ap, ◌∙◌, inl, inr, arith, rules}
+use Rattle.std.proofs.lemmas.List.{get_or_past}
+use Rattle.std.proofs.lemmas.Bool.{cases_lt}
+use Rattle.rigset.specs.declared.set.RigSet.{RigSet}
+use Rattle.rigset.specs.Sets.{has}
+use Rattle.rigset.proofs.Digits.{has_none}
+use Rattle.sheet.specs.Readings.{PermittedOf}
+use Rattle.sheet.proofs.Filling.{each_element}
 use Rattle.sheet.proofs.reading.read_sheet.Goals as goal
-use Rattle.sheet.proofs.reading.read_sheet.Goals.{in-Ok, in_default}
-
-pub loop-kind-init : goal.loop-kind-init
-loop-kind-init g c =
-    filled_none c.new-permitted.result (g.S.Sheet.meaning c.args.sheet.now).permitted c.new-permitted.ensures
-
-pub loop-kind-preserved : goal.loop-kind-preserved
-loop-kind-preserved g c =
-    let m = g.S.Sheet.meaning c.args.sheet.now in
-    let kind = c.loop-kind.kind in
-    let small : kind < 64 = omega (arith, c.types-types.ensures, (g.S.Sheet.lawful c.args.sheet.now).shaped.3) in
-    elim c.match-permitted.branch [
-      | in-Ok w ↦
-          rw w.permitted-is
-          (filled_more c.loop-kind.permitted m.permitted kind w.in-Ok.set small w.in-Ok.ensures.1 c.loop-kind.invariant)
-      | in_default w ↦ absurd (omega (arith, c.types-types.ensures, w.in_default.ensures.0))
-    ]
 
 pub returns : goal.returns
-returns g c = record {
-  rigs = c.rigs-rigs.ensures;
-  types = c.types-types.ensures;
-  permitted = λ t h. c.loop-kind.invariant.1 t (omega (arith, c.types-types.ensures));
-  spare = λ t h. c.loop-kind.invariant.2 t (omega (arith, c.types-types.ensures));
-}
+returns g c =
+    let m = g.S.Sheet.meaning c.args.sheet.now in
+    let few = (g.met.S.Sheet.lawful c.args.sheet.now).shaped.3 in
+    let each = each_element _ (λ f. f.0.now ≡ c.args.sheet.now) (PermittedOf m) (λ f i y q p call. search rules) 64 _ _ 0 refl c.from_fn.ensures.items.each in
+    record {
+      rigs = c.rigs.ensures;
+      types = c.types.ensures;
+      permitted = λ t h. (each t (record { word = 0 }) (omega arith) (omega arith)).permitted h;
+      spare = λ t h. elim (cases_lt t 64) [
+        | inl l ↦ (each t (record { word = 0 }) (omega arith) l).spare h
+        | inr p ↦ λ r.
+            ap (λ (s : RigSet). has s.word r) (get_or_past c.from_fn.result t (record { word = 0 }) (omega (arith, c.from_fn.ensures.items.long)))
+            ∙ has_none r
+      ];
+    }

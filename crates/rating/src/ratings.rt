@@ -2,7 +2,7 @@ ghost use Rattle.std.specs.Prelude.{◌≡◌};
 ghost use Rattle.rating.specs.Ratings.{suits};
 
 /// What a rig can do. A rig whose slowest speed is above its fastest can test nothing.
-#[derive(Clone, Copy)]
+#[derive(Clone, Copy, PartialEq, Eq, Debug)]
 pub struct RigRating {
     /// The greatest pressure, in bar.
     pub pressure: u16,
@@ -15,7 +15,7 @@ pub struct RigRating {
 }
 
 /// What a pump of a type is rated for.
-#[derive(Clone, Copy)]
+#[derive(Clone, Copy, PartialEq, Eq, Debug)]
 pub struct PumpRating {
     /// The rated pressure, in bar.
     pub pressure: u16,
@@ -32,7 +32,6 @@ impl RigRating {
     {
         pump.pressure <= self.pressure
             && pump.flow <= self.flow
-            && self.slowest <= pump.speed
-            && pump.speed <= self.fastest
+            && (self.slowest..=self.fastest).contains(&pump.speed)
     }
 }

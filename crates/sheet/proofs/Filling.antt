@@ -1,16 +1,38 @@
--- An array whose elements a function gives, one after the other.
-use Rattle.std.proofs.Common.{ℕ, zero, suc, ◌+◌, ◌<◌, ◌≤◌, List, slice_index_or, sym, subst, inl, inr, arith}
+-- A reading whose places a function gives, one after the other.
+use Rattle.std.proofs.Common.{◌≡◌, ℕ, zero, suc, ◌+◌, ◌<◌, ◌≤◌, List, slice_index_or, sym, ap, ◌∙◌, subst, inl, inr, arith}
 use denote.Param.Members.{Mut, Called}
-use Rattle.std.proofs.lemmas.Bool.{cases_eq}
-use Rattle.std.specs.Array.{IsFromFnResultFrom}
+use Rattle.std.proofs.lemmas.List.{get_or_past}
+use Rattle.std.proofs.lemmas.Bool.{cases_eq, cases_lt}
+use Rattle.std.specs.Array.{IsFromFnResultFrom, IsFromFnResult}
+use Rattle.rigset.specs.declared.set.RigSet.{RigSet}
+use Rattle.rigset.specs.Sets.{has}
+use Rattle.rigset.proofs.Digits.{has_none}
+use Rattle.sheet.specs.Meaning.{SheetMeaning}
+use Rattle.sheet.specs.Readings.{PermittedOf, Reads}
 
--- what holds of each call holds of each element
-module _ {F B : Type 0} (g : Mut F (ℕ × Unit {0}) B) (P : F → Type 0) (Q : ℕ → B → Type 0) (step : (f : F) (i : ℕ) (y : B) (q : F) → P f → Called g f (i, tt) y q → P q × Q i y) where
-  pub each_element : (n : ℕ) (f : F) (ys : List B) (i : ℕ) → P f → IsFromFnResultFrom g f ys i n → (t : ℕ) (d : B) → i ≤ t → t < i + n → Q t (slice_index_or ys t d)
-  each_element zero f ys i p calls t d low high = absurd (omega arith)
-  each_element (suc n) f ys i p (q, y, at, call, rest) t d low high =
-      let s = step f i y q p call in
+-- Each call answers for the type of its place; `Same` is what the calls keep.
+module _ {F : Type 0} {calls : Mut F (ℕ × Unit {0}) RigSet} (m : SheetMeaning) (Same : F → Type 0) (answers : (f : F) (t : ℕ) (set : RigSet) (next : F) → Same f → Called calls f (t, tt) set next → Same next × PermittedOf m t set) where
+  each_place : (n : ℕ) (f : F) (sets : List RigSet) (i : ℕ) → Same f → IsFromFnResultFrom calls f sets i n → (t : ℕ) (d : RigSet) → i ≤ t → t < i + n → PermittedOf m t (slice_index_or sets t d)
+  each_place zero f sets i same from t d low high = absurd (omega arith)
+  each_place (suc n) f sets i same (next, set, at, call, rest) t d low high =
+      let step = answers f i set next same call in
       elim (cases_eq t i) [
-        | inl e ↦ subst (λ (k : ℕ). Q k (slice_index_or ys k d)) (sym e) (subst (Q i) (sym (at.1 d)) s.1)
-        | inr ne ↦ each_element n q ys (i + 1) s.0 rest t d (omega arith) (omega arith)
+        | inl e ↦ subst (λ (k : ℕ). PermittedOf m k (slice_index_or sets k d)) (sym e) (subst (PermittedOf m i) (sym (at.1 d)) step.1)
+        | inr ne ↦ each_place n next sets (i + 1) step.0 rest t d (omega arith) (omega arith)
       ]
+
+  pub reads : {rigs types : ℕ} {f : F} {sets : List RigSet} → rigs ≡ m.rigs → types ≡ m.types → m.types ≤ 64 → Same f →
+      IsFromFnResult calls f sets 64 → Reads m (record { rigs = rigs; types = types; permitted = sets })
+  reads {sets = sets} r t few same from =
+      let at : (t : ℕ) → t < 64 → PermittedOf m t (slice_index_or sets t (record { word = 0 })) =
+      λ t small. each_place 64 _ sets 0 same from.each t (record { word = 0 }) (omega arith) (omega arith) in
+      record {
+        rigs = r;
+        types = t;
+        permitted = λ t h. (at t (omega arith)).permitted h;
+        spare = λ t h. elim (cases_lt t 64) [
+          | inl small ↦ (at t small).spare h
+          | inr past ↦ λ r.
+              ap (λ (s : RigSet). has s.word r) (get_or_past sets t (record { word = 0 }) (omega (arith, from.long))) ∙ has_none r
+        ];
+      }

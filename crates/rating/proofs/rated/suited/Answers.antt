@@ -2,8 +2,8 @@ use Rattle.std.proofs.Common.{◌≡◌, ℕ, ◌+◌, Bool, length, sym, ◌∙
 use Rattle.rigset.specs.declared.set.RigSet.{RigSet}
 use Rattle.rigset.proofs.Gathering.{Gathered, gathered_none, gathered_one, gathered_not}
 use Rattle.rating.specs.Ratings.{suits, rig_at}
-use Rattle.rating.proofs.rated.calls.suited.Goals as goal
-use Rattle.rating.proofs.rated.calls.suited.Goals.{then-suits, else-suits}
+use Rattle.rating.proofs.rated.suited.Goals as goal
+use Rattle.rating.proofs.rated.suited.Goals.{then-suits, else-suits}
 
 pub loop-r-init : goal.loop-r-init
 loop-r-init c =

@@ -7,6 +7,7 @@ use Rattle.levelling.specs.Levels.{no_rig}
 use Rattle.levelling.proofs.Sums.{inside_decides, sum_le, sum_same, sum_zero, sum_swap, sum_term, sum_even, sum_some, sum_spot}
 use Rattle.rigset.specs.Sets.{limit, has, RigsAre, first_rigs, either, rig_numbered}
 use Rattle.rigset.proofs.Counts.{limit_is}
+use Rattle.rigset.proofs.Operations.{first_is, is_first}
 use Rattle.layers.specs.Layers.{StandsIn, EachOnce}
 
 -- ---- the set of the rigs that a table names
@@ -99,12 +100,6 @@ pub each_once_decides : (rigs all names : ℕ) (order : List ℕ) → rigs ≤ 6
 each_once_decides rigs all names order few len holds named =
     Decides-like (inside limit (has all) (has names))
     (λ s. all_once rigs order len (λ r h.
-    (named r (omega arith)).0 (s r (omega (arith, limit_is)) (holds r ∙ is_below r h))))
-    (λ once r l t. (named r (omega (arith, limit_is))).1 (some_times order r (once r (below_is r (sym (holds r) ∙ t)))))
+    (named r (omega arith)).0 (s r (omega (arith, limit_is)) (holds r ∙ is_first rigs r h (omega arith)))))
+    (λ once r l t. (named r (omega (arith, limit_is))).1 (some_times order r (once r (first_is rigs r (sym (holds r) ∙ t)))))
     (inside_decides limit (has all) (has names))
-  where
-    is_below : (r : ℕ) → r < rigs → first_rigs rigs r ≡ true
-    is_below r h = grind (arith, nat_tests)
-
-    below_is : (r : ℕ) → first_rigs rigs r ≡ true → r < rigs
-    below_is r e = grind (arith, nat_tests)

@@ -3,6 +3,7 @@ use Rattle.std.proofs.Common.{◌≡◌, ℕ, ◌-◌, ◌^◌, ◌<◌, ◌≤�
 use Rattle.std.proofs.lemmas.Bool.Decides.{nat_tests}
 use Rattle.rigset.specs.Sets.{has, first_rigs}
 use Rattle.rigset.proofs.Digits.{has_ones}
+use Rattle.rigset.proofs.Operations.{is_first}
 use Rattle.sheet.specs.Meaning.{SheetMeaning, Lawful, SameMeaning}
 use Rattle.layers.specs.Layers.{approved, renumbered}
 
@@ -28,8 +29,5 @@ renumbered_none m lawful = record {
   rigs = refl;
   types = refl;
   permitted = λ t r h. kept (first_rigs m.rigs r) (m.permitted t r) (λ e.
-      is_first r (lawful.within t h r e) lawful.shaped.1);
+      is_first m.rigs r (lawful.within t h r e) (omega (arith, lawful.shaped.1, lawful.within t h r e)));
 }
-  where
-    is_first : (r : ℕ) → r < m.rigs → m.rigs ≤ 64 → first_rigs m.rigs r ≡ true
-    is_first r l k = grind (arith, nat_tests)

@@ -1,2 +1,4 @@
 pub mod Layers
+pub mod Changes
+pub mod Judgements
 pub mod Sheets

@@ -3,8 +3,10 @@
 //! Rests on `sheet`, for the interface, on `rigset`, for sets of rigs, and on `levelling`, for groups of rigs.
 #![tactic(auto)]
 
-mod approval;
-mod renumber;
+mod approvals;
+mod layer;
+mod order;
 
-pub use approval::Approval;
-pub use renumber::Renumber;
+pub use approvals::{Approval, Approvals};
+pub use layer::{Layer, Table};
+pub use order::{Order, Renumber};

@@ -10,7 +10,7 @@ use Rattle.rating.specs.declared.ratings.PumpRating.{PumpRating}
 use Rattle.rating.specs.Ratings.{rated}
 use Rattle.rating.specs.Sheets.{RatingsJudged}
 use Rattle.layers.specs.Layers.{approved, renumbered}
-use Rattle.layers.specs.Sheets.{ApprovalsJudged, OrderJudged}
+use Rattle.layers.specs.Judgements.{ApprovalsJudged, OrderJudged}
 
 -- A list that is accepted is read as what it means; else the refusal is answered.
 abbrev pub ListRead : ℕ → List ℕ → Result Reading FillRefusal → Type 0

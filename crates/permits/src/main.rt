@@ -3,8 +3,9 @@
 //! Rests on `rating`, `layers` and `sheet`, and on `rigset` and `levelling` below them.
 #![tactic(auto)]
 
-use sheet::{FillRefusal, ListSheet, Reading, Sheet};
-use std::io;
+use sheet::{ListSheet, PermittedRefusal, Reading, Sheet};
+use std::fmt::Display;
+use std::{fmt, io};
 
 mod hall;
 mod piles;
@@ -12,80 +13,104 @@ mod piles;
 use hall::{APPROVALS, ORDER, PUMPS, RIGS};
 use piles::{read_list, read_pile};
 
-// Prints the permitted rigs of each type, or the number of the refusal.
-fn print_read(rt: &HostRuntime, what: &str, read: Result<Reading, FillRefusal>) -> io::Result<()> {
-    match read {
-        Ok(read) => print_reading(rt, what, &read),
-        Err(refusal) => print_refusal(rt, what, refusal.number()),
-    }
-}
+/// What was read of a sheet, as it is printed: its numbers, and then the permitted rigs of each type.
+#[derive(Drop)]
+struct Listing(Reading);
 
-fn print_reading(rt: &HostRuntime, what: &str, read: &Reading) -> io::Result<()> {
-    let rigs = read.rigs;
-    let types = read.types;
-    println!(rt; "{what}: {rigs} rigs, {types} types")?;
-    for (kind, set) in read.permitted.iter().enumerate().take(types) {
-        print!(rt; "type {kind}:")?;
-        for rig in set.members() {
-            print!(rt; " {rig}")?;
+impl Display for Listing {
+    fn fmt<W: fmt::Write>(&self, f: &mut fmt::Formatter<W>) -> fmt::Result {
+        let Reading {
+            rigs,
+            types,
+            permitted,
+        } = &self.0;
+        write!(f, "{rigs} rigs, {types} types")?;
+        for (kind, set) in permitted.iter().enumerate().take(*types) {
+            write!(f, "\ntype {kind}:")?;
+            for rig in set.members() {
+                write!(f, " {rig}")?;
+            }
         }
-        println!(rt; "")?;
+        Ok(())
     }
-    Ok(())
 }
 
-fn print_refusal(rt: &HostRuntime, what: &str, number: u8) -> io::Result<()> {
-    println!(rt; "{what}: refused, {number}")
+/// How many rigs a type may go to, as it is printed.
+#[derive(Drop)]
+struct Count(usize);
+
+impl Display for Count {
+    fn fmt<W: fmt::Write>(&self, f: &mut fmt::Formatter<W>) -> fmt::Result {
+        write!(f, "{} rigs", self.0)
+    }
 }
 
-// Asks a list sheet that was not filled, with one type, for the permitted set of a type.
-fn print_question(rt: &HostRuntime, what: &str, kind: usize) -> io::Result<()> {
-    match ListSheet::new().permitted(kind) {
-        Ok(set) => {
-            let rigs = set.len();
-            println!(rt; "{what}: {rigs} rigs")
+// Prints an answer, or the number of the refusal.
+fn tell<T: Display + Drop, E: Into<u8>>(
+    rt: &HostRuntime,
+    what: &str,
+    answer: Result<T, E>,
+) -> io::Result<()> {
+    match answer {
+        Ok(told) => println!(rt; "{what}: {told}"),
+        Err(refusal) => {
+            let number: u8 = refusal.into();
+            println!(rt; "{what}: refused, {number}")
         }
-        Err(refusal) => print_refusal(rt, what, refusal.number()),
     }
+}
+
+// Asks a list sheet that was not filled, with one type, how many rigs a type may go to.
+fn ask(kind: usize) -> Result<Count, PermittedRefusal> {
+    let set = ListSheet::new().permitted(kind)?;
+    Ok(Count(set.len()))
 }
 
 fn main(rt: HostRuntime) -> io::Result<()> {
-    print_read(
+    tell(
         &rt,
         "the pile",
-        read_pile(&RIGS, &PUMPS, &APPROVALS, &ORDER),
+        read_pile(&RIGS, &PUMPS, &APPROVALS, &ORDER).map(Listing),
     )?;
-    print_read(&rt, "no rig", read_pile(&[], &PUMPS, &APPROVALS, &ORDER))?;
-    print_read(
+    tell(
+        &rt,
+        "no rig",
+        read_pile(&[], &PUMPS, &APPROVALS, &ORDER).map(Listing),
+    )?;
+    tell(
         &rt,
         "an approval too many",
-        read_pile(&RIGS, &PUMPS[0..3], &APPROVALS, &ORDER),
+        read_pile(&RIGS, &PUMPS[0..3], &APPROVALS, &ORDER).map(Listing),
     )?;
-    print_read(
+    tell(
         &rt,
         "rig 4 approved",
-        read_pile(&RIGS, &PUMPS, &[1, 2, 4, 16], &ORDER),
+        read_pile(&RIGS, &PUMPS, &[1, 2, 4, 16], &ORDER).map(Listing),
     )?;
-    print_read(
+    tell(
         &rt,
         "three rigs in the order",
-        read_pile(&RIGS, &PUMPS, &APPROVALS, &ORDER[0..3]),
+        read_pile(&RIGS, &PUMPS, &APPROVALS, &ORDER[0..3]).map(Listing),
     )?;
-    print_read(
+    tell(
         &rt,
         "rig 2 twice in the order",
-        read_pile(&RIGS, &PUMPS, &APPROVALS, &[2, 0, 3, 2]),
+        read_pile(&RIGS, &PUMPS, &APPROVALS, &[2, 0, 3, 2]).map(Listing),
     )?;
-    print_read(
+    tell(
         &rt,
         "rig 4 in the order",
-        read_pile(&RIGS, &PUMPS, &APPROVALS, &[2, 0, 3, 4]),
+        read_pile(&RIGS, &PUMPS, &APPROVALS, &[2, 0, 3, 4]).map(Listing),
     )?;
-    print_read(&rt, "a list", read_list(64, &[0, 1 << 63, 0b101]))?;
-    print_read(&rt, "rig 63 of 63", read_list(63, &[1 << 63]))?;
-    print_read(&rt, "65 rigs", read_list(65, &[1 << 63]))?;
-    print_read(&rt, "no type", read_list(1, &[]))?;
-    print_read(&rt, "65 types", read_list(1, &[1; 65]))?;
-    print_question(&rt, "type 0 of 1", 0)?;
-    print_question(&rt, "type 1 of 1", 1)
+    tell(
+        &rt,
+        "a list",
+        read_list(64, &[0, 1 << 63, 0b101]).map(Listing),
+    )?;
+    tell(&rt, "rig 63 of 63", read_list(63, &[1 << 63]).map(Listing))?;
+    tell(&rt, "65 rigs", read_list(65, &[1 << 63]).map(Listing))?;
+    tell(&rt, "no type", read_list(1, &[]).map(Listing))?;
+    tell(&rt, "65 types", read_list(1, &[1; 65]).map(Listing))?;
+    tell(&rt, "type 0 of 1", ask(0))?;
+    tell(&rt, "type 1 of 1", ask(1))
 }

@@ -1,6 +1,6 @@
 ghost use Rattle.permits.specs.Readings.{ListRead, PileRead};
 
-use layers::{Approval, Renumber};
+use layers::{Approval, Approvals, Order, Renumber};
 use rating::{PumpRating, RatingSheet, RigRating};
 use sheet::{FillRefusal, ListSheet, Reading, read_sheet};
 
@@ -26,8 +26,8 @@ pub fn read_pile<'a>(
     let mut ratings = RatingSheet::new();
     ratings.fill(rigs, pumps)?;
     let mut approval = Approval::over(ratings);
-    approval.fill(approvals)?;
+    approval.fill(Approvals(approvals))?;
     let mut pile = Renumber::over(approval);
-    pile.fill(order)?;
+    pile.fill(Order(order))?;
     Ok(read_sheet(&pile))
 }

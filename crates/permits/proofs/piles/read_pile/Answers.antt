@@ -4,7 +4,10 @@ use Rattle.sheet.specs.Readings.{Reads}
 use Rattle.rating.specs.Ratings.{rated}
 use Rattle.rating.specs.Sheets.{rating_meaning}
 use Rattle.layers.specs.Layers.{approved, renumbered}
-use Rattle.layers.specs.Sheets.{approval_meaning, ApprovalsJudged, renumber_meaning, OrderJudged}
+use Rattle.layers.specs.Sheets.{layer_meaning}
+use Rattle.layers.specs.declared.approvals.Approvals.{Approvals}
+use Rattle.layers.specs.declared.order.Order.{Order}
+use Rattle.layers.specs.Judgements.{ApprovalsJudged, OrderJudged}
 use Rattle.permits.proofs.piles.read_pile.Goals as goal
 
 -- what holds of a meaning holds of its equal
@@ -18,13 +21,14 @@ returns c =
     let order = c.args.order.now in
     let base : SheetMeaning = rated c.args.rigs.now c.args.pumps.now in
     let low : SheetMeaning = rating_meaning c.over-approval.result.below in
-    let mid : SheetMeaning = approval_meaning rating_meaning c.over-pile.result.below in
-    let top : SheetMeaning = renumber_meaning (approval_meaning rating_meaning) c.fill-3.new.self in
+    let middle = layer_meaning rating_meaning (λ (t : Approvals). approved t.0.now) in
+    let mid : SheetMeaning = middle c.over-pile.result.below in
+    let top : SheetMeaning = layer_meaning middle (λ (t : Order). renumbered t.0.now) c.fill-3.new.self in
     let approval = c.in_ok-fill-2.ensures in
     let pile = c.in_ok-fill-3.ensures in
     let first : low ≡ base = ap rating_meaning c.over-approval.ensures.below ∙ c.in_ok-fill.ensures.means in
     let second : mid ≡ approved approvals base =
-    ap (approval_meaning rating_meaning) c.over-pile.ensures.below ∙ approval.means ∙ ap (approved approvals) first in
+    ap middle c.over-pile.ensures.below ∙ approval.means ∙ ap (approved approvals) first in
     let third : top ≡ renumbered order (approved approvals base) = pile.means ∙ ap (renumbered order) second in (
       c.in_ok-fill.ensures.judged,
       at (λ m. ApprovalsJudged m approvals (Ok tt)) low base first approval.judged,

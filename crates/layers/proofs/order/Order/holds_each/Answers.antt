@@ -1,9 +1,9 @@
 use Rattle.std.proofs.lemmas.Bool.Decides.{Decides-at}
 use Rattle.layers.proofs.Orders.{each_once_decides}
-use Rattle.layers.proofs.renumber.holds_each.Goals as goal
+use Rattle.layers.proofs.order.Order.holds_each.Goals as goal
 
 pub returns : goal.returns
 returns c =
     Decides-at c.is_subset.result _ c.is_subset.ensures
-    (each_once_decides c.args.rigs c.below.result.word c.named.result.word c.args.order.now c.requires.0
+    (each_once_decides c.args.rigs c.below.result.word c.named.result.word c.args.self.0.now c.requires.0
     c.requires.1 c.below.ensures c.named.ensures)

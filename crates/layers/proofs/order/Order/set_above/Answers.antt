@@ -3,16 +3,16 @@ use Rattle.rigset.specs.declared.set.RigSet.{RigSet}
 use Rattle.rigset.specs.Sets.{has}
 use Rattle.rigset.proofs.Gathering.{Gathered, gathered_none, gathered_one, gathered_not}
 use Rattle.layers.specs.Layers.{rig_below}
-use Rattle.layers.proofs.renumber.set_above.Goals as goal
-use Rattle.layers.proofs.renumber.set_above.Goals.{then-contains, else-contains}
+use Rattle.layers.proofs.order.Order.set_above.Goals as goal
+use Rattle.layers.proofs.order.Order.set_above.Goals.{then-contains, else-contains}
 
 pub loop-rig-init : goal.loop-rig-init
 loop-rig-init c =
-    gathered_none c.new-set.result.word (λ r. has c.args.below.word (rig_below c.args.order.now r)) c.new-set.ensures
+    gathered_none c.new-set.result.word (λ r. has c.args.below.word (rig_below c.args.self.0.now r)) c.new-set.ensures
 
 pub loop-rig-preserved : goal.loop-rig-preserved
 loop-rig-preserved c =
-    let test : ℕ → Bool = λ r. has c.args.below.word (rig_below c.args.order.now r) in
+    let test : ℕ → Bool = λ r. has c.args.below.word (rig_below c.args.self.0.now r) in
     let rig = c.loop-rig.rig in
     let at : c.contains.result ≡ test rig = c.contains.ensures.answer ∙ ap (has c.args.below.word) c.rig_below.ensures in
     let before = c.loop-rig.invariant in
@@ -28,6 +28,6 @@ loop-rig-preserved c =
 
 pub returns : goal.returns
 returns c =
-    let test : ℕ → Bool = λ r. has c.args.below.word (rig_below c.args.order.now r) in
+    let test : ℕ → Bool = λ r. has c.args.below.word (rig_below c.args.self.0.now r) in
     let all : c.loop-rig.rig ≡ c.args.rigs = omega arith in
     subst (Gathered c.loop-rig.set.word test) all c.loop-rig.invariant

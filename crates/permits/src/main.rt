@@ -66,51 +66,61 @@ fn ask(kind: usize) -> Result<Count, PermittedRefusal> {
     Ok(Count(set.len()))
 }
 
-fn main(rt: HostRuntime) -> io::Result<()> {
+// Reads the pile of the hall, and then piles with one table spoiled.
+fn tell_piles(rt: &HostRuntime) -> io::Result<()> {
     tell(
-        &rt,
+        rt,
         "the pile",
         read_pile(&RIGS, &PUMPS, &APPROVALS, &ORDER).map(Listing),
     )?;
     tell(
-        &rt,
+        rt,
         "no rig",
         read_pile(&[], &PUMPS, &APPROVALS, &ORDER).map(Listing),
     )?;
     tell(
-        &rt,
+        rt,
         "an approval too many",
         read_pile(&RIGS, &PUMPS[0..3], &APPROVALS, &ORDER).map(Listing),
     )?;
     tell(
-        &rt,
+        rt,
         "rig 4 approved",
         read_pile(&RIGS, &PUMPS, &[1, 2, 4, 16], &ORDER).map(Listing),
     )?;
     tell(
-        &rt,
+        rt,
         "three rigs in the order",
         read_pile(&RIGS, &PUMPS, &APPROVALS, &ORDER[0..3]).map(Listing),
     )?;
     tell(
-        &rt,
+        rt,
         "rig 2 twice in the order",
         read_pile(&RIGS, &PUMPS, &APPROVALS, &[2, 0, 3, 2]).map(Listing),
     )?;
     tell(
-        &rt,
+        rt,
         "rig 4 in the order",
         read_pile(&RIGS, &PUMPS, &APPROVALS, &[2, 0, 3, 4]).map(Listing),
-    )?;
+    )
+}
+
+// Reads lists at the limits of rigs and types, and beyond.
+fn tell_lists(rt: &HostRuntime) -> io::Result<()> {
     tell(
-        &rt,
+        rt,
         "a list",
         read_list(64, &[0, 1 << 63, 0b101]).map(Listing),
     )?;
-    tell(&rt, "rig 63 of 63", read_list(63, &[1 << 63]).map(Listing))?;
-    tell(&rt, "65 rigs", read_list(65, &[1 << 63]).map(Listing))?;
-    tell(&rt, "no type", read_list(1, &[]).map(Listing))?;
-    tell(&rt, "65 types", read_list(1, &[1; 65]).map(Listing))?;
+    tell(rt, "rig 63 of 63", read_list(63, &[1 << 63]).map(Listing))?;
+    tell(rt, "65 rigs", read_list(65, &[1 << 63]).map(Listing))?;
+    tell(rt, "no type", read_list(1, &[]).map(Listing))?;
+    tell(rt, "65 types", read_list(1, &[1; 65]).map(Listing))
+}
+
+fn main(rt: HostRuntime) -> io::Result<()> {
+    tell_piles(&rt)?;
+    tell_lists(&rt)?;
     tell(&rt, "type 0 of 1", ask(0))?;
     tell(&rt, "type 1 of 1", ask(1))
 }

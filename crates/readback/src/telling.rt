@@ -43,7 +43,7 @@ fn tell_line(heap: Global, out: &mut Vec<u8>, number: u32, line: &[u8]) -> Resul
                 Err(_) => unreachable(),
             }
         }
-        Err(fault) => tell_fault(heap, out, number, fault.cause.number(), fault.field),
+        Err(fault) => tell_fault(heap, out, number, u8::from(fault.cause), fault.field),
     }
 }
 
@@ -74,7 +74,7 @@ pub fn read_back(heap: Global, text: &[u8]) -> Result<Vec<u8>, AllocError>
             let last = format!(in heap; "LINES,{count},FAULTS,{faults}\n")?;
             out.extend_from_slice(last.as_bytes())?;
         }
-        Err(refusal) => tell_fault(heap, &mut out, 0, refusal.number(), 0)?,
+        Err(refusal) => tell_fault(heap, &mut out, 0, u8::from(refusal), 0)?,
     }
     Ok(out)
 }

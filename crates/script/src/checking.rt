@@ -10,18 +10,17 @@ use crate::reading::read;
 use bounded::Bounded;
 
 /// Why a text is not checked.
-#[derive(Clone, Copy)]
+#[derive(Clone, Copy, PartialEq, Eq, Debug)]
 pub enum TextRefusal {
     /// It has more than 65,536 bytes.
     TooLong = 7,
 }
 
-impl TextRefusal {
-    /// The number by which the refusal is told.
-    pub fn number(self) -> u8
-        ensures { result ≡ text_number self }
-    {
-        self as u8
+impl From<TextRefusal> for u8 {
+    ghost from_gives = { λ e n. n ≡ text_number e };
+
+    fn from(refusal: TextRefusal) -> u8 {
+        refusal as u8
     }
 }
 

@@ -1,5 +1,5 @@
 /// A command word.
-#[derive(Clone, Copy)]
+#[derive(Clone, Copy, PartialEq, Eq, Debug)]
 pub(crate) enum Word {
     Hall,
     PumpType,
@@ -14,14 +14,14 @@ pub(crate) enum Word {
 
 /// The characters of a mask, one for each of `rigs` rigs: rig r has a 1 where `set`, in which rig r
 /// counts 2 to the power r, holds it. Bits of `set` past the last rig are no part of the mask.
-#[derive(Clone, Copy)]
+#[derive(Clone, Copy, PartialEq, Eq, Debug)]
 pub struct Mask {
     pub rigs: u8,
     pub set: u64,
 }
 
 /// What a line says. The text of a note is a part of the line that was read.
-#[derive(Clone, Copy)]
+#[derive(Clone, Copy, PartialEq, Eq, Debug)]
 pub enum Command<'a> {
     Hall { rigs: u16, types: u16 },
     PumpType(Mask),

@@ -2,7 +2,7 @@ ghost use Rattle.std.specs.Prelude.{◌≡◌};
 ghost use Rattle.script.specs.Numbers.{cause_number};
 
 /// Why a line is faulty. The value is the number by which the refusal is told.
-#[derive(Clone, Copy)]
+#[derive(Clone, Copy, PartialEq, Eq, Debug)]
 pub enum Cause {
     /// Over 80 bytes before the end byte, no end byte, or another byte outside 32 to 126.
     Malformed = 8,
@@ -14,17 +14,16 @@ pub enum Cause {
     BadField = 11,
 }
 
-impl Cause {
-    /// The number by which the refusal is told.
-    pub fn number(self) -> u8
-        ensures { result ≡ cause_number self }
-    {
-        self as u8
+impl From<Cause> for u8 {
+    ghost from_gives = { λ e n. n ≡ cause_number e };
+
+    fn from(cause: Cause) -> u8 {
+        cause as u8
     }
 }
 
 /// What is wrong with a line. The command word is field 1; 0 stands for the line as a whole.
-#[derive(Clone, Copy)]
+#[derive(Clone, Copy, PartialEq, Eq, Debug)]
 pub struct LineFault {
     pub cause: Cause,
     pub field: u8,
@@ -48,7 +47,7 @@ impl LineFault {
 }
 
 /// A faulty line of a text, by its number from 1.
-#[derive(Clone, Copy)]
+#[derive(Clone, Copy, PartialEq, Eq, Debug)]
 pub struct FaultyLine {
     pub line: u32,
     pub fault: LineFault,

@@ -11,7 +11,7 @@ use crate::reading::read;
 use bounded::Bounded;
 
 /// Why a command is not written.
-#[derive(Clone, Copy)]
+#[derive(Clone, Copy, PartialEq, Eq, Debug)]
 pub enum WriteRefusal {
     /// Its line would have over 80 bytes before its end byte, or a byte outside 32 to 126.
     Malformed = 8,
@@ -23,12 +23,11 @@ pub enum WriteRefusal {
     NoRoom = 12,
 }
 
-impl WriteRefusal {
-    /// The number by which the refusal is told.
-    pub fn number(self) -> u8
-        ensures { result ≡ write_number self }
-    {
-        self as u8
+impl From<WriteRefusal> for u8 {
+    ghost from_gives = { λ e n. n ≡ write_number e };
+
+    fn from(refusal: WriteRefusal) -> u8 {
+        refusal as u8
     }
 }
 

@@ -11,7 +11,7 @@ static TOO_LONG: [u8; 65537] = [b'\n'; 65537];
 // Line number, cause and field at a place.
 fn told(faults: &Bounded<'_, FaultyLine>, i: usize) -> Option<(u32, u8, u8)> {
     match faults.get(i) {
-        Some(entry) => Some((entry.line, entry.fault.cause.number(), entry.fault.field)),
+        Some(entry) => Some((entry.line, u8::from(entry.fault.cause), entry.fault.field)),
         None => None,
     }
 }
@@ -20,7 +20,7 @@ fn told(faults: &Bounded<'_, FaultyLine>, i: usize) -> Option<(u32, u8, u8)> {
 fn count(text: &[u8], faults: &mut Bounded<'_, FaultyLine>) -> Result<usize, u8> {
     match check_text(text, faults) {
         Ok(n) => Ok(n),
-        Err(refusal) => Err(refusal.number()),
+        Err(refusal) => Err(u8::from(refusal)),
     }
 }
 

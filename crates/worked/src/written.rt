@@ -14,7 +14,7 @@ fn pump_type(rigs: u8, set: u64) -> Command<'static> {
 fn told(command: Command<'_>, out: &mut [u8]) -> Result<usize, u8> {
     match write(command, out) {
         Ok(n) => Ok(n),
-        Err(refusal) => Err(refusal.number()),
+        Err(refusal) => Err(u8::from(refusal)),
     }
 }
 

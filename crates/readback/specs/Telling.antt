@@ -1,7 +1,7 @@
 -- What is told of a text: each line by its number, as it was understood, and how many there are.
 use Rattle.std.specs.Prelude.{◌≡◌, ℕ, ◌+◌, List, [], ◌∷◌, ◌++◌, length, codes, decimal}
 use Rattle.script.specs.Format.{line}
-use Rattle.script.specs.Numbers.{cause_number, text_number}
+use Rattle.script.specs.Numbers.{fault_number, fault_field, text_number}
 use Rattle.script.specs.Texts.{lines, Within, Beyond, FaultyOnes}
 use Rattle.script.specs.Verdicts.{Verdict, accepted, faulty, Judged}
 use Rattle.script.specs.declared.checking.TextRefusal.TheVariants.{TooLong}
@@ -14,7 +14,7 @@ fault_told n cause field = decimal n ++ (codes ",FAULT," ++ (decimal cause ++ (c
 -- What is told of line n: the line of its command, or its fault.
 abbrev pub line_told : ℕ → Verdict → List ℕ
 line_told n (accepted m) = (decimal n ++ codes ",") ++ line m
-line_told n (faulty f) = fault_told n (cause_number f.cause) f.field
+line_told n (faulty f) = fault_told n (fault_number f) (fault_field f)
 
 -- What is told of these lines, in order; the first line has the number n.
 pub data LinesTold : ℕ → List (List ℕ) → List ℕ → Type 0 where

@@ -43,7 +43,7 @@ fn tell_line(heap: Global, out: &mut Vec<u8>, number: u32, line: &[u8]) -> Resul
                 Err(_) => unreachable(),
             }
         }
-        Err(fault) => tell_fault(heap, out, number, u8::from(fault.cause), fault.field),
+        Err(fault) => tell_fault(heap, out, number, u8::from(fault), fault.field()),
     }
 }
 

@@ -6,9 +6,8 @@ use Rattle.script.specs.declared.command.Command.{Command}
 use Rattle.script.specs.Format.{Meaning, meaning, name, shape, front, commas, Commaless, WellFormed, Accepted, Parted, Faulty}
 use Rattle.script.specs.Parts.{parts, Says, Misfit}
 use Rattle.script.specs.declared.command.Word.{Word}
-use Rattle.script.specs.declared.faults.Cause.{Cause}
-use Rattle.script.specs.declared.faults.Cause.TheVariants.{UnknownWord, FieldCount}
 use Rattle.script.specs.declared.faults.LineFault.{LineFault}
+use Rattle.script.specs.declared.faults.LineFault.TheVariants.{UnknownWord, FieldCount}
 use Rattle.script.proofs.Cuts.{rejoined, length_parts, parts_apart}
 
 module _ (l b : List ℕ) (form : WellFormed l b) where
@@ -16,19 +15,19 @@ module _ (l b : List ℕ) (form : WellFormed l b) where
   parted : (f : List ℕ) (fs : List (List ℕ)) → parts b ≡ f ∷ fs → Parted l f fs
   parted f fs e = record { form = subst (WellFormed l) (rejoined b f fs e) form; commaless = subst (AllByRecursion Commaless) e (parts_apart b) }
 
-  unknown_at : (gs : List (List ℕ)) → parts b ≡ gs → 0 < length gs → ((w : Word) (fs : List (List ℕ)) → parts b ≡ name w ∷ fs → ⊥) → Faulty l UnknownWord 1
+  unknown_at : (gs : List (List ℕ)) → parts b ≡ gs → 0 < length gs → ((w : Word) (fs : List (List ℕ)) → parts b ≡ name w ∷ fs → ⊥) → Faulty l UnknownWord
   unknown_at [] e h n = absurd (omega arith)
-  unknown_at (g ∷ gs) e h n = (refl, (g, gs, parted g gs e, λ w q. n w gs (e ∙ ap (λ (x : List ℕ). x ∷ gs) q)))
+  unknown_at (g ∷ gs) e h n = (g, gs, parted g gs e, λ w q. n w gs (e ∙ ap (λ (x : List ℕ). x ∷ gs) q))
 
-  pub unknown : ((w : Word) (fs : List (List ℕ)) → parts b ≡ name w ∷ fs → ⊥) → Faulty l UnknownWord 1
+  pub unknown : ((w : Word) (fs : List (List ℕ)) → parts b ≡ name w ∷ fs → ⊥) → Faulty l UnknownWord
   unknown n = unknown_at (parts b) refl (omega (arith, length_parts b)) n
 
-  pub miscounted : (w : Word) (fs : List (List ℕ)) → parts b ≡ name w ∷ fs → (length fs ≡ length (shape w) → ⊥) → Faulty l FieldCount 0
-  miscounted w fs e n = (refl, (w, fs, parted (name w) fs e, n))
+  pub miscounted : (w : Word) (fs : List (List ℕ)) → parts b ≡ name w ∷ fs → (length fs ≡ length (shape w) → ⊥) → Faulty l FieldCount
+  miscounted w fs e n = (w, fs, parted (name w) fs e, n)
 
-  pub misfit : (w : Word) (fs : List (List ℕ)) → parts b ≡ name w ∷ fs → length fs ≡ length (shape w) → (f : LineFault) → Misfit (shape w) fs f → Faulty l f.cause f.field
+  pub misfit : (w : Word) (fs : List (List ℕ)) → parts b ≡ name w ∷ fs → length fs ≡ length (shape w) → (f : LineFault) → Misfit (shape w) fs f → Faulty l f
   misfit w fs e n f bad =
-      subst (λ (x : Cause). Faulty l x f.field) (sym bad.cause) (w, fs, parted (name w) fs e, n, bad.leftmost)
+      subst (Faulty l) (sym bad.names) (w, fs, parted (name w) fs e, n, bad.leftmost)
 
   pub said : (w : Word) (fs : List (List ℕ)) → parts b ≡ name w ∷ fs → (m : Meaning) → Says w fs m → Accepted l m
   said w fs e m s =

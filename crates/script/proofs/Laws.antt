@@ -11,9 +11,8 @@ use Rattle.script.specs.Parts.{parts, after}
 use Rattle.script.specs.Verdicts.{Verdict, accepted, faulty, Judged, AnAcceptedLineIsTheOnlyLineOfItsCommand}
 use Rattle.script.specs.declared.command.Word.{Word}
 use Rattle.script.specs.declared.command.Word.TheVariants.{Hall, PumpType, Add, Withdraw, Take, Shut, Open, Report, Note}
-use Rattle.script.specs.declared.faults.Cause.{Cause}
-use Rattle.script.specs.declared.faults.Cause.TheVariants.{Malformed, UnknownWord, FieldCount, BadField}
 use Rattle.script.specs.declared.faults.LineFault.{LineFault}
+use Rattle.script.specs.declared.faults.LineFault.TheVariants.{Malformed, UnknownWord, FieldCount, BadField}
 use Rattle.script.proofs.Cuts.{parts_joined, after_commas}
 use Rattle.script.proofs.Names.{same_word, same_rest, same_name, name_whole}
 
@@ -137,57 +136,50 @@ line_parted l m h = record { form = h.form; commaless = (name_whole m.0, all_who
 
 -- an accepted line is not faulty
 
-pub not_faulty : (l : List ℕ) (m : Meaning) (c : Cause) (k : ℕ) → Accepted l m → Faulty l c k → ⊥
-not_faulty l m Malformed k h r = r.1 _ h.form
-not_faulty l m UnknownWord k h r = r.1.3 m.0 (ap headed (same_parts l _ _ _ _ r.1.2 (line_parted l m h)))
-not_faulty l m FieldCount k h r =
-    let e = same_fields l _ _ _ _ r.1.2 (line_parted l m h) in
-    r.1.3 (ap length e.1 ∙ same_count (shape m.0) m.1 ∙ ap (λ (x : Word). length (shape x)) (sym e.0))
-not_faulty l m BadField k h r =
+pub not_faulty : (l : List ℕ) (m : Meaning) (f : LineFault) → Accepted l m → Faulty l f → ⊥
+not_faulty l m Malformed h r = r _ h.form
+not_faulty l m UnknownWord h r = r.3 m.0 (ap headed (same_parts l _ _ _ _ r.2 (line_parted l m h)))
+not_faulty l m FieldCount h r =
+    let e = same_fields l _ _ _ _ r.2 (line_parted l m h) in
+    r.3 (ap length e.1 ∙ same_count (shape m.0) m.1 ∙ ap (λ (x : Word). length (shape x)) (sym e.0))
+not_faulty l m (BadField k) h r =
     let e = same_fields l _ _ _ _ r.2 (line_parted l m h) in
     let a : FirstBad (shape m.0) r.1 2 k = subst (λ (x : Word). FirstBad (shape x) r.1 2 k) e.0 r.4 in
     none_bad (shape m.0) m.1 2 k h.fit (subst (λ (x : List (List ℕ)). FirstBad (shape m.0) x 2 k) e.1 a)
 
--- a line is faulty for one cause, and names one field
+-- a line has one fault
 
-known_word : (l : List ℕ) (j k : ℕ) (w : Word) (fs : List (List ℕ)) → Faulty l UnknownWord k → Parted l (name w) fs → ⊥
-known_word l j k w fs r p = r.1.3 w (ap headed (same_parts l _ _ _ _ r.1.2 p))
+known_word : (l : List ℕ) (w : Word) (fs : List (List ℕ)) → Faulty l UnknownWord → Parted l (name w) fs → ⊥
+known_word l w fs r p = r.3 w (ap headed (same_parts l _ _ _ _ r.2 p))
 
-right_count : (l : List ℕ) (k : ℕ) (w : Word) (fs : List (List ℕ)) → Faulty l FieldCount k → Parted l (name w) fs → length fs ≡ length (shape w) → ⊥
-right_count l k w fs r p n =
-    let e = same_fields l _ _ _ _ r.1.2 p in
-    r.1.3 (ap length e.1 ∙ n ∙ ap (λ (x : Word). length (shape x)) (sym e.0))
+right_count : (l : List ℕ) (w : Word) (fs : List (List ℕ)) → Faulty l FieldCount → Parted l (name w) fs → length fs ≡ length (shape w) → ⊥
+right_count l w fs r p n =
+    let e = same_fields l _ _ _ _ r.2 p in
+    r.3 (ap length e.1 ∙ n ∙ ap (λ (x : Word). length (shape x)) (sym e.0))
 
-same_leftmost : (l : List ℕ) (j k : ℕ) → Faulty l BadField j → Faulty l BadField k → j ≡ k
+same_leftmost : (l : List ℕ) (j k : ℕ) → Faulty l (BadField j) → Faulty l (BadField k) → j ≡ k
 same_leftmost l j k r s =
     let e = same_fields l _ _ _ _ r.2 s.2 in
     let a : FirstBad (shape s.0) r.1 2 j = subst (λ (x : Word). FirstBad (shape x) r.1 2 j) e.0 r.4 in
     same_bad (shape s.0) s.1 2 j k (subst (λ (x : List (List ℕ)). FirstBad (shape s.0) x 2 j) e.1 a) s.4
 
-same_fault : (l : List ℕ) (b c : Cause) (j k : ℕ) → Faulty l b j → Faulty l c k → (b ≡ c) × (j ≡ k)
-same_fault l Malformed Malformed j k r s = (refl, r.0 ∙ sym s.0)
-same_fault l Malformed UnknownWord j k r s = absurd (r.1 _ s.1.2.form)
-same_fault l Malformed FieldCount j k r s = absurd (r.1 _ s.1.2.form)
-same_fault l Malformed BadField j k r s = absurd (r.1 _ s.2.form)
-same_fault l UnknownWord Malformed j k r s = absurd (s.1 _ r.1.2.form)
-same_fault l UnknownWord UnknownWord j k r s = (refl, r.0 ∙ sym s.0)
-same_fault l UnknownWord FieldCount j k r s = absurd (known_word l k j _ _ r s.1.2)
-same_fault l UnknownWord BadField j k r s = absurd (known_word l k j _ _ r s.2)
-same_fault l FieldCount Malformed j k r s = absurd (s.1 _ r.1.2.form)
-same_fault l FieldCount UnknownWord j k r s = absurd (known_word l j k _ _ s r.1.2)
-same_fault l FieldCount FieldCount j k r s = (refl, r.0 ∙ sym s.0)
-same_fault l FieldCount BadField j k r s = absurd (right_count l j _ _ r s.2 s.3)
-same_fault l BadField Malformed j k r s = absurd (s.1 _ r.2.form)
-same_fault l BadField UnknownWord j k r s = absurd (known_word l j k _ _ s r.2)
-same_fault l BadField FieldCount j k r s = absurd (right_count l k _ _ s r.2 r.3)
-same_fault l BadField BadField j k r s = (refl, same_leftmost l j k r s)
-
-fault : Cause → ℕ → LineFault
-fault c k = record { cause = c; field = k }
-
-same_record : (f g : LineFault) → f.cause ≡ g.cause → f.field ≡ g.field → f ≡ g
-unfolding fault
-same_record f g c k = ap (λ (x : Cause). fault x f.field) c ∙ ap (fault g.cause) k
+same_fault : (l : List ℕ) (f g : LineFault) → Faulty l f → Faulty l g → f ≡ g
+same_fault l Malformed Malformed r s = refl
+same_fault l Malformed UnknownWord r s = absurd (r _ s.2.form)
+same_fault l Malformed FieldCount r s = absurd (r _ s.2.form)
+same_fault l Malformed (BadField k) r s = absurd (r _ s.2.form)
+same_fault l UnknownWord Malformed r s = absurd (s _ r.2.form)
+same_fault l UnknownWord UnknownWord r s = refl
+same_fault l UnknownWord FieldCount r s = absurd (known_word l _ _ r s.2)
+same_fault l UnknownWord (BadField k) r s = absurd (known_word l _ _ r s.2)
+same_fault l FieldCount Malformed r s = absurd (s _ r.2.form)
+same_fault l FieldCount UnknownWord r s = absurd (known_word l _ _ s r.2)
+same_fault l FieldCount FieldCount r s = refl
+same_fault l FieldCount (BadField k) r s = absurd (right_count l _ _ r s.2 s.3)
+same_fault l (BadField j) Malformed r s = absurd (s _ r.2.form)
+same_fault l (BadField j) UnknownWord r s = absurd (known_word l _ _ s r.2)
+same_fault l (BadField j) FieldCount r s = absurd (right_count l _ _ s r.2 r.3)
+same_fault l (BadField j) (BadField k) r s = ap BadField (same_leftmost l j k r s)
 
 -- no two commands share a line
 
@@ -252,9 +244,9 @@ same_front l a b c d = (same_from_push a b 10 10 (sym c.ended ∙ d.ended)).0
 pub one_verdict : (l : List ℕ) (u v : Verdict) → Judged l u → Judged l v → u ≡ v
 one_verdict l (accepted m) (accepted p) h k =
     ap accepted (same_meaning m p (all_held _ _ h.fit) (all_held _ _ k.fit) (same_front l _ _ h.form k.form))
-one_verdict l (accepted m) (faulty f) h k = absurd (not_faulty l m f.cause f.field h k)
-one_verdict l (faulty f) (accepted m) h k = absurd (not_faulty l m f.cause f.field k h)
-one_verdict l (faulty f) (faulty g) h k = let e = same_fault l _ _ _ _ h k in ap faulty (same_record f g e.0 e.1)
+one_verdict l (accepted m) (faulty f) h k = absurd (not_faulty l m f h k)
+one_verdict l (faulty f) (accepted m) h k = absurd (not_faulty l m f k h)
+one_verdict l (faulty f) (faulty g) h k = ap faulty (same_fault l f g h k)
 
 pub only_line : (l : List ℕ) (v : Verdict) → Judged l v → AnAcceptedLineIsTheOnlyLineOfItsCommand l v
 only_line l v j m e other h =

@@ -65,6 +65,6 @@ same_line n f g es fs p q = cc
 pub same_ones : {n : ℕ} {ls : List (List ℕ)} {es fs : List FaultyLine} → FaultyOnes n ls es → FaultyOnes n ls fs → es ≡ fs
 same_ones none none = refl
 same_ones (passed m j t) (passed p k u) = same_ones t u
-same_ones (passed m j t) (told f k u) = absurd (not_faulty _ m f.cause f.field j k)
-same_ones (told f j t) (passed m k u) = absurd (not_faulty _ m f.cause f.field k j)
+same_ones (passed m j t) (told f k u) = absurd (not_faulty _ m f j k)
+same_ones (told f j t) (passed m k u) = absurd (not_faulty _ m f k j)
 same_ones (told f j t) (told g k u) = same_line _ f g _ _ (faulty_is f g (one_verdict _ (faulty f) (faulty g) j k)) (same_ones t u)

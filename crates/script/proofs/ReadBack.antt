@@ -6,7 +6,7 @@ use Rattle.script.specs.Parts.{parts, after}
 use Rattle.script.specs.Verdicts.{accepted, Written, Unwritten, AWrittenCommandReadsBackAsItself}
 use Rattle.script.specs.declared.command.Command.{Command}
 use Rattle.script.specs.declared.command.Command.TheVariants as command
-use Rattle.script.specs.declared.faults.Cause.TheVariants.{Malformed, UnknownWord, FieldCount, BadField}
+use Rattle.script.specs.declared.faults.LineFault.TheVariants.{Malformed, UnknownWord, FieldCount, BadField}
 use Rattle.script.specs.declared.writing.WriteRefusal.{WriteRefusal}
 use Rattle.script.specs.declared.writing.WriteRefusal.TheVariants as unwritten
 use Rattle.script.proofs.Cuts.{cut_at, ends_commas, parts_joined}
@@ -37,18 +37,18 @@ sized_held command.Report h = tt
 sized_held (command.Note t) h = (tt, tt)
 
 -- a line of more than 81 bytes is malformed
-pub too_long : (m : Meaning) → 81 < length (line m) → Faulty (line m) Malformed 0
-too_long m h = (refl, λ b f. omega (arith, ap length f.ended ∙ length_push b 10, f.short))
+pub too_long : (m : Meaning) → 81 < length (line m) → Faulty (line m) Malformed
+too_long m h b f = omega (arith, ap length f.ended ∙ length_push b 10, f.short)
 
 -- a command's line begins with its word
-pub word_known : (m : Meaning) (k : ℕ) → Faulty (line m) UnknownWord k → ⊥
-word_known m k r =
-    let p = r.1.2 in
-    let same : front m ≡ r.1.0 ++ commas r.1.1 = (same_from_push _ _ 10 10 p.form.ended).0 in
-    let e : ◌≡◌ {A = List (List ℕ)} (r.1.0 ∷ r.1.1) (name m.0 ∷ after (commas (fields m))) =
-    sym (parts_joined r.1.0 r.1.1 p.commaless.0 p.commaless.1) ∙ ap parts (sym same)
+pub word_known : (m : Meaning) → Faulty (line m) UnknownWord → ⊥
+word_known m r =
+    let p = r.2 in
+    let same : front m ≡ r.0 ++ commas r.1 = (same_from_push _ _ 10 10 p.form.ended).0 in
+    let e : ◌≡◌ {A = List (List ℕ)} (r.0 ∷ r.1) (name m.0 ∷ after (commas (fields m))) =
+    sym (parts_joined r.0 r.1 p.commaless.0 p.commaless.1) ∙ ap parts (sym same)
     ∙ cut_at (name m.0) (commas (fields m)) (name_whole m.0) (ends_commas (fields m)) in
-    r.1.3 m.0 (ap (λ (fs : List (List ℕ)). get_or fs 0 []) e)
+    r.3 m.0 (ap (λ (fs : List (List ℕ)). get_or fs 0 []) e)
 
 -- a command whose line is read as some command is that command
 pub reads_itself : (c : Command) → Sized c → (p : Meaning) → Accepted (line (meaning c)) p → Accepted (line (meaning c)) (meaning c)
@@ -66,9 +66,9 @@ written before after m n e h w a =
     record { count = e; room = h; bytes = w; back = subst (λ (l : List ℕ). AWrittenCommandReadsBackAsItself l m) t (back m a) }
 
 not_refused : (m : Meaning) (room : ℕ) (e : WriteRefusal) → Accepted (line m) m → 81 ≤ room → Unwritten m room e → ⊥
-not_refused m room unwritten.Malformed a h u = not_faulty (line m) m Malformed 0 a u
-not_refused m room unwritten.FieldCount a h u = not_faulty (line m) m FieldCount 0 a u
-not_refused m room unwritten.BadField a h u = not_faulty (line m) m BadField u.0 a u.1
+not_refused m room unwritten.Malformed a h u = not_faulty (line m) m Malformed a u
+not_refused m room unwritten.FieldCount a h u = not_faulty (line m) m FieldCount a u
+not_refused m room unwritten.BadField a h u = not_faulty (line m) m (BadField u.0) a u.1
 not_refused m room unwritten.NoRoom a h u = omega (arith, u.1, length_push (front m) 10, a.form.short)
 
 -- what was read can be written where a well-formed line has room

@@ -5,8 +5,8 @@ use Rattle.script.specs.declared.command.Command.{Command}
 use Rattle.script.specs.declared.command.Command.TheVariants as command
 use Rattle.script.specs.declared.command.Word.{Word}
 use Rattle.script.specs.declared.command.Word.TheVariants.{Hall, PumpType, Add, Withdraw, Take, Shut, Open, Report, Note}
-use Rattle.script.specs.declared.faults.Cause.{Cause}
-use Rattle.script.specs.declared.faults.Cause.TheVariants.{Malformed, UnknownWord, FieldCount, BadField}
+use Rattle.script.specs.declared.faults.LineFault.{LineFault}
+use Rattle.script.specs.declared.faults.LineFault.TheVariants.{Malformed, UnknownWord, FieldCount, BadField}
 
 -- Words and fields
 
@@ -150,12 +150,10 @@ FirstBad [] fs i k = ⊥
 FirstBad (s ∷ ss) [] i k = ⊥
 FirstBad (s ∷ ss) (f ∷ fs) i k = ((k ≡ i) × (Good s f → ⊥)) ⊎ (Good s f × FirstBad ss fs (i + 1) k)
 
--- The line is faulty for this cause, and the fault names field k. Each cause presupposes that none before it holds.
-abbrev pub Faulty : List ℕ → Cause → ℕ → Type 0
-Faulty l Malformed k = (k ≡ 0) × ((bytes : List ℕ) → WellFormed l bytes → ⊥)
-Faulty l UnknownWord k =
-    (k ≡ 1) × ((f : List ℕ) × (fs : List (List ℕ)) × Parted l f fs × ((w : Word) → f ≢ name w))
-Faulty l FieldCount k =
-    (k ≡ 0) × ((w : Word) × (fs : List (List ℕ)) × Parted l (name w) fs × (length fs ≢ length (shape w)))
-Faulty l BadField k =
+-- The line has this fault. Each fault presupposes that none before it holds.
+abbrev pub Faulty : List ℕ → LineFault → Type 0
+Faulty l Malformed = (bytes : List ℕ) → WellFormed l bytes → ⊥
+Faulty l UnknownWord = (f : List ℕ) × (fs : List (List ℕ)) × Parted l f fs × ((w : Word) → f ≢ name w)
+Faulty l FieldCount = (w : Word) × (fs : List (List ℕ)) × Parted l (name w) fs × (length fs ≢ length (shape w))
+Faulty l (BadField k) =
     (w : Word) × (fs : List (List ℕ)) × Parted l (name w) fs × (length fs ≡ length (shape w)) × FirstBad (shape w) fs 2 k

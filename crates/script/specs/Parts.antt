@@ -4,7 +4,7 @@ use Rattle.std.specs.Prelude.{◌≡◌, ℕ, cond, List, [], ◌∷◌, ◌++�
 use Rattle.script.specs.Format.{name, Form, Meaning, AllFit, shape, fields, Good, FirstBad}
 use Rattle.script.specs.Texts.{onto}
 use Rattle.script.specs.declared.command.Word.{Word}
-use Rattle.script.specs.declared.faults.Cause.TheVariants.{BadField}
+use Rattle.script.specs.declared.faults.LineFault.TheVariants.{BadField}
 use Rattle.script.specs.declared.faults.LineFault.{LineFault}
 
 -- The bytes do not begin with this word.
@@ -28,8 +28,9 @@ after (b ∷ bs) = parts bs
 
 -- The fault names the leftmost of these fields that is not good.
 pub record Misfit (ss : List Form) (fs : List (List ℕ)) (e : LineFault) : Type 0 where
-  pub cause : e.cause ≡ BadField
-  pub leftmost : FirstBad ss fs 2 e.field
+  pub field : ℕ
+  pub names : e ≡ BadField field
+  pub leftmost : FirstBad ss fs 2 field
 
 -- The command has this word and these fields, with values in range.
 pub record Says (w : Word) (fs : List (List ℕ)) (m : Meaning) : Type 0 where

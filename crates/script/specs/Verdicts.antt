@@ -3,7 +3,7 @@ use Rattle.std.specs.Prelude.{◌≡◌, ℕ, ◌^◌, ◌<◌, ◌≤◌, List,
 use Rattle.script.specs.Format.{Meaning, meaning, line, Accepted, Faulty}
 use Rattle.script.specs.declared.command.Command.{Command}
 use Rattle.script.specs.declared.command.Command.TheVariants as command
-use Rattle.script.specs.declared.faults.Cause.TheVariants.{Malformed, FieldCount, BadField}
+use Rattle.script.specs.declared.faults.LineFault.TheVariants.{Malformed, FieldCount, BadField}
 use Rattle.script.specs.declared.faults.LineFault.{LineFault}
 use Rattle.script.specs.declared.writing.WriteRefusal.{WriteRefusal}
 use Rattle.script.specs.declared.writing.WriteRefusal.TheVariants as unwritten
@@ -16,7 +16,7 @@ pub data Verdict : Type 0 where
 -- The verdict that the format gives.
 abbrev pub Judged : List ℕ → Verdict → Type 0
 Judged l (accepted m) = Accepted l m
-Judged l (faulty f) = Faulty l f.cause f.field
+Judged l (faulty f) = Faulty l f
 
 -- What an answer of `read` says.
 abbrev pub verdict : Result Command LineFault → Verdict
@@ -35,7 +35,7 @@ Tidy (command.Open r) = Unit {0}
 Tidy command.Report = Unit {0}
 Tidy (command.Note t) = Unit {0}
 
--- The line has this verdict and no other: not another command, not another cause or field.
+-- The line has this verdict and no other: not another command, not another fault.
 abbrev pub TheLineHasNoOtherVerdict : List ℕ → Verdict → Type 0
 TheLineHasNoOtherVerdict l v = (u : Verdict) → Judged l u → u ≡ v
 
@@ -58,7 +58,7 @@ pub record Written (before : List ℕ) (m : Meaning) (n : ℕ) (after : List ℕ
 
 -- Why a command is not written into `room` bytes: its line would be refused; or it would be accepted, but is longer than `room`.
 abbrev pub Unwritten : Meaning → ℕ → WriteRefusal → Type 0
-Unwritten m room unwritten.Malformed = Faulty (line m) Malformed 0
-Unwritten m room unwritten.FieldCount = Faulty (line m) FieldCount 0
-Unwritten m room unwritten.BadField = (k : ℕ) × Faulty (line m) BadField k
+Unwritten m room unwritten.Malformed = Faulty (line m) Malformed
+Unwritten m room unwritten.FieldCount = Faulty (line m) FieldCount
+Unwritten m room unwritten.BadField = (k : ℕ) × Faulty (line m) (BadField k)
 Unwritten m room unwritten.NoRoom = Accepted (line m) m × (room < length (line m))

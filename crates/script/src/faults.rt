@@ -1,49 +1,44 @@
 ghost use Rattle.std.specs.Prelude.{◌≡◌};
-ghost use Rattle.script.specs.Numbers.{cause_number};
+ghost use Rattle.script.specs.Numbers.{fault_number, fault_field};
 
-/// Why a line is faulty. The value is the number by which the refusal is told.
+/// What is wrong with a line.
 #[derive(Clone, Copy, PartialEq, Eq, Debug)]
-pub enum Cause {
+pub enum LineFault {
     /// Over 80 bytes before the end byte, no end byte, or another byte outside 32 to 126.
-    Malformed = 8,
+    Malformed,
     /// The first field is no command word.
-    UnknownWord = 9,
+    UnknownWord,
     /// The word takes another number of fields.
-    FieldCount = 10,
-    /// A field is out of form or range.
-    BadField = 11,
-}
-
-impl From<Cause> for u8 {
-    ghost from_gives = { λ e n. n ≡ cause_number e };
-
-    fn from(cause: Cause) -> u8 {
-        cause as u8
-    }
-}
-
-/// What is wrong with a line. The command word is field 1; 0 stands for the line as a whole.
-#[derive(Clone, Copy, PartialEq, Eq, Debug)]
-pub struct LineFault {
-    pub cause: Cause,
-    pub field: u8,
+    FieldCount,
+    /// A field is out of form or range: the leftmost such field. The command word is field 1.
+    BadField { field: u8 },
 }
 
 impl LineFault {
-    pub const MALFORMED: LineFault = LineFault {
-        cause: Cause::Malformed,
-        field: 0,
-    };
+    /// The field that the fault names: the command word is field 1, and 0 stands for the line as a whole.
+    pub fn field(self) -> u8
+        ensures { result ≡ fault_field self }
+    {
+        match self {
+            LineFault::Malformed | LineFault::FieldCount => 0,
+            LineFault::UnknownWord => 1,
+            LineFault::BadField { field } => field,
+        }
+    }
+}
 
-    pub const UNKNOWN_WORD: LineFault = LineFault {
-        cause: Cause::UnknownWord,
-        field: 1,
-    };
+/// The number by which the fault is told.
+impl From<LineFault> for u8 {
+    ghost from_gives = { λ f n. n ≡ fault_number f };
 
-    pub const FIELD_COUNT: LineFault = LineFault {
-        cause: Cause::FieldCount,
-        field: 0,
-    };
+    fn from(fault: LineFault) -> u8 {
+        match fault {
+            LineFault::Malformed => 8,
+            LineFault::UnknownWord => 9,
+            LineFault::FieldCount => 10,
+            LineFault::BadField { .. } => 11,
+        }
+    }
 }
 
 /// A faulty line of a text, by its number from 1.

@@ -1,11 +1,11 @@
 ghost use Rattle.std.specs.Prelude.{◌≡◌, ℕ, ◌^◌, ◌<◌, ◌≤◌, List, [], ◌∷◌, length, take, drop, count_by, MatchOption, MatchResult, nat_eq};
 ghost use Rattle.script.specs.Format.{Form, number, count, mask, Good, Fit, shown, marks, Commaless};
 ghost use Rattle.script.specs.Parts.{Ends, after, BadAt, Misfit};
-ghost use Rattle.script.specs.declared.faults.Cause.TheVariants.{BadField};
+ghost use Rattle.script.specs.declared.faults.LineFault.TheVariants.{BadField};
 ghost use Rattle.std.proofs.Common.{rules};
 
 use crate::command::Mask;
-use crate::faults::{Cause, LineFault};
+use crate::faults::LineFault;
 
 /// The greatest count.
 const COUNT_MAX: u16 = 4096;
@@ -153,15 +153,12 @@ pub(crate) fn next_field(rest: &[u8]) -> (&[u8], &[u8])
 // The value of the next field, which is the line's field `k`, and what follows it.
 fn field_at<V: FieldValue>(rest: &[u8], k: u8) -> Result<(V, &[u8]), LineFault>
     requires { 0 < length (after rest.now) }
-    ensures { MatchResult result (λ x. (f : List ℕ) × V.FieldValue.reads f x.0 × (after rest.now ≡ f ∷ after x.1.now)) (λ e. (e ≡ record { cause = BadField; field = k }) × BadAt V.FieldValue.form (after rest.now)) }
+    ensures { MatchResult result (λ x. (f : List ℕ) × V.FieldValue.reads f x.0 × (after rest.now ≡ f ∷ after x.1.now)) (λ e. (e ≡ BadField k) × BadAt V.FieldValue.form (after rest.now)) }
 {
     let (field, rest) = next_field(rest);
     match V::parse(field) {
         Some(value) => Ok((value, rest)),
-        None => Err(LineFault {
-            cause: Cause::BadField,
-            field: k,
-        }),
+        None => Err(LineFault::BadField { field: k }),
     }
 }
 

@@ -16,7 +16,7 @@ mod writing;
 
 pub use checking::{TEXT_MAX, TextRefusal, check};
 pub use command::{Command, Mask};
-pub use faults::{Cause, FaultyLine, LineFault};
+pub use faults::{FaultyLine, LineFault};
 pub use form::LINE_BYTES;
 pub use lines::first_line;
 pub use reading::read;

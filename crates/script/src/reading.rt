@@ -66,13 +66,13 @@ fn judge<'a>(line: &'a [u8]) -> Result<Command<'a>, LineFault>
     ensures tidy { IfOk result Tidy }
 {
     let Some(front) = front_of(line) else {
-        return Err(LineFault::MALFORMED);
+        return Err(LineFault::Malformed);
     };
     let Some((word, rest)) = read_word(front) else {
-        return Err(LineFault::UNKNOWN_WORD);
+        return Err(LineFault::UnknownWord);
     };
     if count_commas(rest) != word.arity() {
-        return Err(LineFault::FIELD_COUNT);
+        return Err(LineFault::FieldCount);
     }
     read_fields(word, rest)
 }

@@ -5,7 +5,7 @@ ghost use Rattle.script.specs.Verdicts.{Written, Unwritten};
 
 use crate::command::Command;
 use crate::draft::put_line;
-use crate::faults::Cause;
+use crate::faults::LineFault;
 use crate::form::LINE_BYTES;
 use crate::reading::read;
 use bounded::Bounded;
@@ -44,12 +44,12 @@ pub fn write(command: Command<'_>, out: &mut [u8]) -> Result<usize, WriteRefusal
     let line = draft.as_slice();
     // The line is judged as any line is; its word is known.
     if let Err(fault) = read(line) {
-        return match fault.cause {
-            Cause::Malformed => Err(WriteRefusal::Malformed),
-            Cause::UnknownWord => unreachable(),
-            Cause::FieldCount => Err(WriteRefusal::FieldCount),
-            Cause::BadField => Err(WriteRefusal::BadField),
-        };
+        return Err(match fault {
+            LineFault::Malformed => WriteRefusal::Malformed,
+            LineFault::UnknownWord => unreachable(),
+            LineFault::FieldCount => WriteRefusal::FieldCount,
+            LineFault::BadField { .. } => WriteRefusal::BadField,
+        });
     }
     let n = line.len();
     if out.len() < n {

@@ -5,7 +5,7 @@ use Rattle.bounded.specs.Entries.{entries, spare}
 use Rattle.bounded.specs.declared.Bounded.{Bounded}
 use Rattle.script.specs.Drafts.{Extends}
 use Rattle.script.specs.Format.{Meaning, meaning, line, Accepted, Faulty}
-use Rattle.script.specs.declared.faults.Cause.{Cause}
+use Rattle.script.specs.declared.faults.LineFault.{LineFault}
 use Rattle.script.proofs.ReadBack.{Sized, too_long, word_known, reads_itself, written}
 use Rattle.script.proofs.writing.write.Goals as goal
 
@@ -24,9 +24,9 @@ returns-in_default c =
 pub unreachable-requires : goal.unreachable-requires
 unreachable-requires c =
     let t = drafted _ _ _ (meaning c.args.command) c.new-draft.ensures.empty c.in-Ok.ensures c.as_slice-line.ensures in
-    word_known (meaning c.args.command) c.in-Err.fault.field
-    (subst (λ (x : Cause). Faulty (line (meaning c.args.command)) x c.in-Err.fault.field) c.in-UnknownWord.is
-    (subst (λ (l : List ℕ). Faulty l c.in-Err.fault.cause c.in-Err.fault.field) t c.in-Err.ensures.judged))
+    word_known (meaning c.args.command)
+    (subst (Faulty (line (meaning c.args.command))) c.in-UnknownWord.is
+    (subst (λ (l : List ℕ). Faulty l c.in-Err.fault) t c.in-Err.ensures.judged))
 
 pub returns-then-out-n : goal.returns-then-out-n
 returns-then-out-n c =

@@ -1,4 +1,3 @@
-pub mod Prefixes
 pub mod Endings
 pub mod Cuts
 pub mod Misfits

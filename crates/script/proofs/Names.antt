@@ -1,11 +1,27 @@
 -- No command word begins like another. Assumes nothing.
-use Rattle.std.proofs.Common.{◌≡◌, ℕ, cond, eqb, List, [], ◌∷◌, ◌++◌, get_or, sym, refl, ap, ◌∙◌, subst, rules}
+use Rattle.std.proofs.Common.{◌≡◌, ℕ, cond, eqb, List, [], ◌∷◌, ◌++◌, get_or, sym, refl, ap, ◌∙◌, subst, arith, rules}
+use Rattle.std.specs.List.{All}
 use Rattle.std.proofs.lemmas.List.{append_cancel_left}
 use Rattle.script.specs.Format.{name, commas, Commaless}
 use Rattle.script.specs.Parts.{parts, Ends}
 use Rattle.script.specs.declared.command.Word.{Word}
 use Rattle.script.specs.declared.command.Word.TheVariants.{Hall, PumpType, Add, Withdraw, Take, Shut, Open, Report, Note}
 use Rattle.script.proofs.Cuts.{rejoined, ends_commas}
+
+-- the table of the words has every word
+abbrev pub words : List Word
+words = Hall ∷ PumpType ∷ Add ∷ Withdraw ∷ Take ∷ Shut ∷ Open ∷ Report ∷ Note ∷ []
+
+pub every_word : (P : Word → Type 0) → All P words → (w : Word) → P w
+every_word P h Hall = h 0 Hall (omega arith)
+every_word P h PumpType = h 1 Hall (omega arith)
+every_word P h Add = h 2 Hall (omega arith)
+every_word P h Withdraw = h 3 Hall (omega arith)
+every_word P h Take = h 4 Hall (omega arith)
+every_word P h Shut = h 5 Hall (omega arith)
+every_word P h Open = h 6 Hall (omega arith)
+every_word P h Report = h 7 Hall (omega arith)
+every_word P h Note = h 8 Hall (omega arith)
 
 -- the word that bytes begin with, if they begin with one
 abbrev guess : List ℕ → Word

@@ -1,0 +1,14 @@
+use Rattle.std.proofs.Common.{subst, arith}
+use Rattle.std.proofs.lemmas.List.{take_all}
+use Rattle.std.proofs.lemmas.List.Elements.{All-more}
+use Rattle.std.specs.List.{All}
+use Rattle.script.specs.Parts.{NotBegun}
+use Rattle.script.specs.declared.command.Word.TheVariants.{Hall}
+use Rattle.script.proofs.Names.{words, every_word}
+use Rattle.script.proofs.words.split_word.Goals as goal
+
+pub loop-word-preserved : goal.loop-word-preserved
+loop-word-preserved c = All-more (λ w. NotBegun w c.args.bytes.now) words c.loop-word.word-index Hall c.loop-word-test.true c.loop-word.invariant c.in_default.ensures
+
+pub returns : goal.returns
+returns c = every_word (λ w. NotBegun w c.args.bytes.now) (subst (All (λ w. NotBegun w c.args.bytes.now)) (take_all c.loop-word.word-index words c.loop-word-test.false) c.loop-word.invariant)

@@ -1,13 +1,16 @@
 -- Bytes that join a draft, one after another. Assumes nothing.
-use Rattle.std.proofs.Common.{◌≡◌, ℕ, suc, ◌+◌, ◌-◌, ◌/◌, ◌%◌, ◌<◌, ◌≤◌, true, List, [], ◌∷◌, ◌++◌, length, is_err, decimal, Result, sym, ap, ◌∙◌, subst, arith}
+use Rattle.std.proofs.Common.{◌≡◌, ℕ, suc, ◌+◌, ◌-◌, ◌/◌, ◌%◌, ◌<◌, ◌≤◌, true, List, [], ◌∷◌, ◌++◌, map, length, get_or, take, drop, is_err, decimal, Result, sym, ap, ◌∙◌, subst, ◌⊎◌, inl, inr, arith}
 use Rattle.std.proofs.lemmas.Fmt.{decimal_digit, decimal_step}
-use Rattle.std.proofs.lemmas.List.{append_assoc, append-nil, length-append}
+use Rattle.std.proofs.lemmas.List.{append_assoc, append-nil, length-append, map-append, take_more, take-append-drop}
 use Rattle.std.proofs.lemmas.Result.{MatchResult-from_err, MatchResult-weaker}
 use Rattle.bounded.specs.Entries.{entries, spare}
 use Rattle.bounded.specs.declared.Bounded.{Bounded}
 use Rattle.bounded.specs.declared.Full.{Full}
 use Rattle.script.specs.Drafts.{Extends, Wrote}
-use Rattle.script.specs.Format.{mask, shown, marks}
+use Rattle.script.specs.Format.{mask, shown, marks, meaning, fields, commas}
+use Rattle.script.specs.declared.command.Command.{Command}
+use Rattle.script.specs.declared.command.Command.TheVariants as command
+use Rattle.script.proofs.Cuts.{commas_append}
 use Rattle.script.proofs.Numerals.{marked}
 
 pub extends_none : (d : Bounded ℕ) → Extends d [] d
@@ -43,11 +46,39 @@ wrote_as a c xs zs r e w = subst (λ (ys : List ℕ). Wrote a ys c r) (sym e) w
 
 -- numbers and masks
 
+-- the numbers as they are written, each after its comma
+abbrev pub listed : List ℕ → List ℕ
+listed ns = commas (map decimal ns)
+
+listed_append : (ms ns : List ℕ) → listed (ms ++ ns) ≡ listed ms ++ listed ns
+listed_append ms ns = ap commas (map-append decimal ms ns) ∙ commas_append (map decimal ms) (map decimal ns)
+
+-- one more number: its comma, and then its digits
+pub listed_more : (ns : List ℕ) (i : ℕ) → i < length ns → listed (take (i + 1) ns) ≡ (listed (take i ns) ++ 44 ∷ []) ++ decimal (get_or ns i 0)
+listed_more ns i h =
+    ap listed (take_more ns i 0 h) ∙ listed_append (take i ns) (get_or ns i 0 ∷ [])
+    ∙ ap (λ (xs : List ℕ). listed (take i ns) ++ 44 ∷ xs) (append-nil (decimal (get_or ns i 0)))
+    ∙ sym (append_assoc (listed (take i ns)) (44 ∷ []) (decimal (get_or ns i 0)))
+
+pub listed_rest : (ns : List ℕ) (i : ℕ) → listed ns ≡ listed (take i ns) ++ listed (drop i ns)
+listed_rest ns i = ap listed (sym (take-append-drop i ns)) ∙ listed_append (take i ns) (drop i ns)
+
 pub decimal_last : (n : ℕ) → 10 ≤ n → n < 65536 → decimal n ≡ decimal (n / 10) ++ (48 + n % 10) ∷ []
 decimal_last n h l = decimal_step n h (omega arith)
 
 pub decimal_only : (n : ℕ) → n < 10 → decimal n ≡ (48 + n % 10) ∷ []
 decimal_only n h = let e : n ≡ n % 10 = omega arith in decimal_digit n h ∙ ap (λ (k : ℕ). (48 + k) ∷ []) e
+
+-- the commands whose fields are numbers alone
+
+pub listed_two : (x : Command) (m n : ℕ) → (x ≡ command.Add m n) ⊎ (x ≡ command.Withdraw m n) → commas (fields (meaning x)) ≡ listed (m ∷ n ∷ [])
+listed_two x m n (inl e) = ap (λ (y : Command). commas (fields (meaning y))) e
+listed_two x m n (inr e) = ap (λ (y : Command). commas (fields (meaning y))) e
+
+pub listed_rig : (x : Command) (r : ℕ) → (x ≡ command.Take r) ⊎ ((x ≡ command.Shut r) ⊎ (x ≡ command.Open r)) → commas (fields (meaning x)) ≡ listed (r ∷ [])
+listed_rig x r (inl e) = ap (λ (y : Command). commas (fields (meaning y))) e
+listed_rig x r (inr (inl e)) = ap (λ (y : Command). commas (fields (meaning y))) e
+listed_rig x r (inr (inr e)) = ap (λ (y : Command). commas (fields (meaning y))) e
 
 pub marks_next : (k set : ℕ) → 0 < k → shown mask (marks k set) ≡ (48 + set % 2) ∷ shown mask (marks (k - 1) (set / 2))
 marks_next k set h =

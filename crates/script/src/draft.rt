@@ -1,4 +1,4 @@
-ghost use Rattle.std.specs.Prelude.{[], ◌∷◌, decimal};
+ghost use Rattle.std.specs.Prelude.{[], ◌∷◌, map, decimal};
 ghost use Rattle.script.specs.Drafts.{Wrote};
 ghost use Rattle.script.specs.Format.{mask, shown, marks, meaning, fields, commas, line};
 
@@ -40,20 +40,15 @@ fn put_mask(draft: &mut Bounded<'_, u8>, m: Mask) -> Result<(), Full>
     Ok(())
 }
 
-// A number after its comma.
-fn put_one(draft: &mut Bounded<'_, u8>, n: u16) -> Result<(), Full>
-    ensures { Wrote draft.old (commas (decimal n ∷ [])) draft.new result }
+// Each of the numbers, after its comma.
+fn put_numbers(draft: &mut Bounded<'_, u8>, numbers: &[u16]) -> Result<(), Full>
+    ensures { Wrote draft.old (commas (map decimal numbers.now)) draft.new result }
 {
-    put(draft, b',')?;
-    put_number(draft, n)
-}
-
-// Two numbers, each after its comma.
-fn put_two(draft: &mut Bounded<'_, u8>, m: u16, n: u16) -> Result<(), Full>
-    ensures { Wrote draft.old (commas (decimal m ∷ decimal n ∷ [])) draft.new result }
-{
-    put_one(draft, m)?;
-    put_one(draft, n)
+    for n in numbers {
+        put(draft, b',')?;
+        put_number(draft, *n)?;
+    }
+    Ok(())
 }
 
 // The fields of a command, each after its comma.
@@ -61,16 +56,17 @@ fn put_fields(draft: &mut Bounded<'_, u8>, command: Command<'_>) -> Result<(), F
     ensures { Wrote draft.old (commas (fields (meaning command.entry))) draft.new result }
 {
     match command {
-        Command::Hall { rigs, types } => put_two(draft, rigs, types),
+        Command::Hall { rigs, types } => put_numbers(draft, &[rigs, types]),
         Command::PumpType(m) => {
             put(draft, b',')?;
             put_mask(draft, m)
         }
-        Command::Add { kind, count } => put_two(draft, kind, count),
-        Command::Withdraw { kind, count } => put_two(draft, kind, count),
-        Command::Take { rig } => put_one(draft, rig),
-        Command::Shut { rig } => put_one(draft, rig),
-        Command::Open { rig } => put_one(draft, rig),
+        Command::Add { kind, count } | Command::Withdraw { kind, count } => {
+            put_numbers(draft, &[kind, count])
+        }
+        Command::Take { rig } | Command::Shut { rig } | Command::Open { rig } => {
+            put_numbers(draft, &[rig])
+        }
         Command::Report => Ok(()),
         Command::Note(text) => {
             put(draft, b',')?;

@@ -1,30 +1,21 @@
-use Rattle.std.proofs.Common.{ℕ, List, ◌∷◌, ap, ◌∙◌}
+use Rattle.std.proofs.Common.{ℕ, List, ◌∷◌, ap, ◌∙◌, rules}
 use Rattle.std.proofs.lemmas.List.{append-nil}
 use Rattle.script.specs.Format.{commas, fields, meaning}
 use Rattle.script.specs.declared.command.Command.{Command}
-use Rattle.script.proofs.Drafting.{wrote_then, wrote_as}
+use Rattle.script.proofs.Drafting.{wrote_then, wrote_as, listed_two, listed_rig}
 use Rattle.script.proofs.draft.put_fields.Goals as goal
 
 abbrev said : Command → List ℕ
 said x = commas (fields (meaning x))
 
 pub returns-in-Hall : goal.returns-in-Hall
-returns-in-Hall c = wrote_as _ _ _ _ c.put_two.result (ap said c.in-Hall.is) c.put_two.ensures
+returns-in-Hall c = wrote_as _ _ _ _ c.put_numbers.result (ap said c.in-Hall.is) c.put_numbers.ensures
 
 pub returns-in-Add : goal.returns-in-Add
-returns-in-Add c = wrote_as _ _ _ _ c.put_two-in-Add.result (ap said c.in-Add.is) c.put_two-in-Add.ensures
-
-pub returns-in-Withdraw : goal.returns-in-Withdraw
-returns-in-Withdraw c = wrote_as _ _ _ _ c.put_two-in-Withdraw.result (ap said c.in-Withdraw.is) c.put_two-in-Withdraw.ensures
+returns-in-Add c = wrote_as _ _ _ _ _ (listed_two _ _ _ (search rules)) c.put_numbers-in-Add.ensures
 
 pub returns-in-Take : goal.returns-in-Take
-returns-in-Take c = wrote_as _ _ _ _ c.put_one.result (ap said c.in-Take.is) c.put_one.ensures
-
-pub returns-in-Shut : goal.returns-in-Shut
-returns-in-Shut c = wrote_as _ _ _ _ c.put_one-in-Shut.result (ap said c.in-Shut.is) c.put_one-in-Shut.ensures
-
-pub returns-in-Open : goal.returns-in-Open
-returns-in-Open c = wrote_as _ _ _ _ c.put_one-in-Open.result (ap said c.in-Open.is) c.put_one-in-Open.ensures
+returns-in-Take c = wrote_as _ _ _ _ _ (listed_rig _ _ (search rules)) c.put_numbers-in-Take.ensures
 
 pub returns-in_ok-put-in-PumpType : goal.returns-in_ok-put-in-PumpType
 returns-in_ok-put-in-PumpType c =

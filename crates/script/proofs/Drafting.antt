@@ -1,6 +1,5 @@
 -- Bytes that join a draft, one after another. Assumes nothing.
-use Rattle.std.proofs.Common.{◌≡◌, ℕ, suc, ◌+◌, ◌-◌, ◌/◌, ◌%◌, ◌<◌, ◌≤◌, true, List, [], ◌∷◌, ◌++◌, map, length, get_or, take, drop, is_err, decimal, Result, sym, ap, ◌∙◌, subst, ◌⊎◌, inl, inr, arith}
-use Rattle.std.proofs.lemmas.Fmt.{decimal_digit, decimal_step}
+use Rattle.std.proofs.Common.{◌≡◌, ℕ, suc, ◌+◌, ◌-◌, ◌/◌, ◌%◌, ◌<◌, true, List, [], ◌∷◌, ◌++◌, map, length, get_or, take, drop, is_err, decimal, Result, sym, ap, ◌∙◌, subst, ◌⊎◌, inl, inr, arith}
 use Rattle.std.proofs.lemmas.List.{append_assoc, append-nil, length-append, map-append, take_more, take-append-drop}
 use Rattle.std.proofs.lemmas.Result.{MatchResult-from_err, MatchResult-weaker}
 use Rattle.bounded.specs.Entries.{entries, spare}
@@ -62,12 +61,6 @@ listed_more ns i h =
 
 pub listed_rest : (ns : List ℕ) (i : ℕ) → listed ns ≡ listed (take i ns) ++ listed (drop i ns)
 listed_rest ns i = ap listed (sym (take-append-drop i ns)) ∙ listed_append (take i ns) (drop i ns)
-
-pub decimal_last : (n : ℕ) → 10 ≤ n → n < 65536 → decimal n ≡ decimal (n / 10) ++ (48 + n % 10) ∷ []
-decimal_last n h l = decimal_step n h (omega arith)
-
-pub decimal_only : (n : ℕ) → n < 10 → decimal n ≡ (48 + n % 10) ∷ []
-decimal_only n h = let e : n ≡ n % 10 = omega arith in decimal_digit n h ∙ ap (λ (k : ℕ). (48 + k) ∷ []) e
 
 -- the commands whose fields are numbers alone
 

@@ -1,5 +1,5 @@
 -- The leftmost field that is out of form. Assumes nothing.
-use Rattle.std.proofs.Common.{◌≡◌, ℕ, List, [], ◌∷◌, sym, refl, ap, subst, inl, inr}
+use Rattle.std.proofs.Common.{◌≡◌, ℕ, List, [], ◌∷◌, sym, refl, subst, inl, inr}
 use Rattle.script.specs.Format.{Form, Good, FirstBad}
 use Rattle.script.specs.Parts.{BadAt, Misfit}
 use Rattle.script.specs.declared.faults.LineFault.TheVariants.{BadField}

@@ -1,5 +1,5 @@
 -- From a draft of a command's line to what is written. Assumes nothing.
-use Rattle.std.proofs.Common.{◌≡◌, ℕ, ◌<◌, ◌≤◌, List, [], ◌∷◌, ◌++◌, length, get_or, take, drop, sym, refl, ap, ◌∙◌, subst, arith}
+use Rattle.std.proofs.Common.{◌≡◌, ℕ, ◌<◌, ◌≤◌, List, [], ◌∷◌, ◌++◌, length, get_or, take, drop, sym, ap, ◌∙◌, subst, arith}
 use Rattle.std.proofs.lemmas.List.{length_push, same_from_push, take_at}
 use Rattle.script.specs.Format.{Meaning, meaning, name, shape, fields, front, commas, line, Accepted, Faulty}
 use Rattle.script.specs.Parts.{parts, after}

@@ -4,6 +4,7 @@ ghost use Rattle.script.specs.Format.{mask, shown, marks, meaning, fields, comma
 
 use crate::command::{Command, Mask};
 use bounded::{Bounded, Full};
+use itoa::Buffer;
 
 fn put(draft: &mut Bounded<'_, u8>, b: u8) -> Result<(), Full>
     ensures { Wrote draft.old (b ∷ []) draft.new result }
@@ -23,10 +24,7 @@ fn put_all(draft: &mut Bounded<'_, u8>, bytes: &[u8]) -> Result<(), Full>
 fn put_number(draft: &mut Bounded<'_, u8>, n: u16) -> Result<(), Full>
     ensures { Wrote draft.old (decimal n) draft.new result }
 {
-    if n >= 10 {
-        put_number(draft, n / 10)?;
-    }
-    put(draft, b'0' + (n % 10) as u8)
+    put_all(draft, Buffer::new().format(n).as_bytes())
 }
 
 fn put_mask(draft: &mut Bounded<'_, u8>, m: Mask) -> Result<(), Full>

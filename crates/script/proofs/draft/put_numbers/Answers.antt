@@ -1,6 +1,4 @@
-use Rattle.std.proofs.Common.{◌+◌, [], ◌∷◌, take, refl, subst, arith}
-use Rattle.std.proofs.lemmas.List.{take_all}
-use Rattle.script.specs.Drafts.{Extends}
+use Rattle.std.proofs.Common.{◌+◌, [], ◌∷◌, take, refl}
 use Rattle.script.proofs.Drafting.{listed, listed_more, listed_rest, extends_then, overflows_then, overflows_front, wrote_none}
 use Rattle.script.proofs.draft.put_numbers.Goals as goal
 

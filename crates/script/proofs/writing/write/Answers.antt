@@ -5,7 +5,6 @@ use Rattle.bounded.specs.Entries.{entries, spare}
 use Rattle.bounded.specs.declared.Bounded.{Bounded}
 use Rattle.script.specs.Drafts.{Extends}
 use Rattle.script.specs.Format.{Meaning, meaning, line, Accepted, Faulty}
-use Rattle.script.specs.declared.faults.LineFault.{LineFault}
 use Rattle.script.proofs.ReadBack.{Sized, too_long, word_known, reads_itself, written}
 use Rattle.script.proofs.writing.write.Goals as goal
 

@@ -16,6 +16,7 @@ pub enum TextRefusal {
     TooLong = 7,
 }
 
+/// The number by which the refusal is told.
 impl From<TextRefusal> for u8 {
     ghost from_gives = { λ e n. n ≡ text_number e };
 

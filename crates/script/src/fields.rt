@@ -156,10 +156,8 @@ fn field_at<V: FieldValue>(rest: &[u8], k: u8) -> Result<(V, &[u8]), LineFault>
     ensures { MatchResult result (λ x. (f : List ℕ) × V.FieldValue.reads f x.0 × (after rest.now ≡ f ∷ after x.1.now)) (λ e. (e ≡ BadField k) × BadAt V.FieldValue.form (after rest.now)) }
 {
     let (field, rest) = next_field(rest);
-    match V::parse(field) {
-        Some(value) => Ok((value, rest)),
-        None => Err(LineFault::BadField { field: k }),
-    }
+    let value = V::parse(field).ok_or(LineFault::BadField { field: k })?;
+    Ok((value, rest))
 }
 
 // The one field that follows the word.

@@ -65,12 +65,8 @@ fn judge<'a>(line: &'a [u8]) -> Result<Command<'a>, LineFault>
     ensures judged { Judged line.now (verdict result) }
     ensures tidy { IfOk result Tidy }
 {
-    let Some(front) = front_of(line) else {
-        return Err(LineFault::Malformed);
-    };
-    let Some((word, rest)) = read_word(front) else {
-        return Err(LineFault::UnknownWord);
-    };
+    let front = front_of(line).ok_or(LineFault::Malformed)?;
+    let (word, rest) = read_word(front).ok_or(LineFault::UnknownWord)?;
     if count_commas(rest) != word.arity() {
         return Err(LineFault::FieldCount);
     }

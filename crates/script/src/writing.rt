@@ -23,6 +23,7 @@ pub enum WriteRefusal {
     NoRoom = 12,
 }
 
+/// The number by which the refusal is told.
 impl From<WriteRefusal> for u8 {
     ghost from_gives = { λ e n. n ≡ write_number e };
 
@@ -38,9 +39,8 @@ pub fn write(command: Command<'_>, out: &mut [u8]) -> Result<usize, WriteRefusal
 {
     let mut store = [0; LINE_BYTES];
     let mut draft = Bounded::new(&mut store);
-    let Ok(()) = put_line(&mut draft, command) else {
-        return Err(WriteRefusal::Malformed);
-    };
+    // What the draft has no place for is over 80 bytes.
+    put_line(&mut draft, command).map_err(|_| WriteRefusal::Malformed)?;
     let line = draft.as_slice();
     // The line is judged as any line is; its word is known.
     if let Err(fault) = read(line) {
@@ -55,6 +55,6 @@ pub fn write(command: Command<'_>, out: &mut [u8]) -> Result<usize, WriteRefusal
     if out.len() < n {
         return Err(WriteRefusal::NoRoom);
     }
-    out[0..n].copy_from_slice(line);
+    out[..n].copy_from_slice(line);
     Ok(n)
 }

@@ -1,7 +1,7 @@
 -- Bytes cut at their commas, and joined again. Assumes nothing.
 use Rattle.std.proofs.Common.{◌≡◌, ℕ, ◌+◌, ◌-◌, ◌<◌, ◌≤◌, true, false, cond, eqb, List, [], ◌∷◌, ◌++◌, length, get_or, take, drop, count_by, sym, refl, ap, ◌∙◌, subst, ⊎_elim, arith}
 use Rattle.std.specs.List.{AllByRecursion}
-use Rattle.std.proofs.lemmas.List.{drop_more, drop_all, take_all, take-append-drop, nil_from_length, append_assoc}
+use Rattle.std.proofs.lemmas.List.{drop_more, drop_all, take_all, take-append-drop, append_assoc}
 use Rattle.std.proofs.lemmas.List.Sums.{sum_by-cons}
 use Rattle.std.proofs.lemmas.Bool.{ne_eqb}
 use Rattle.std.proofs.lemmas.Bool.Decides.{eqb_tells}
@@ -108,11 +108,3 @@ next_is (x ∷ xs) f r k h p q nf er =
     let t : take (length (x ∷ xs) - 1) xs ≡ xs = take_all _ xs (omega arith) in
     let u : f ++ r ≡ take (length (x ∷ xs) - 1) xs = ap (λ (y : List ℕ). y ++ r) p ∙ ap (λ (y : List ℕ). take k (take (length (x ∷ xs) - 1) xs) ++ y) q ∙ take-append-drop k _ in
     ap parts (sym (u ∙ t)) ∙ cut_at f r nf er
-
--- so many fields and no more
-
-pub only_one : (fs : List (List ℕ)) (f : List ℕ) (gs : List (List ℕ)) → length fs ≡ 1 → fs ≡ f ∷ gs → fs ≡ f ∷ []
-only_one fs f gs n e = e ∙ ap (λ (x : List (List ℕ)). f ∷ x) (nil_from_length gs (omega (arith, ap length e)))
-
-pub only_two : (fs : List (List ℕ)) (f g : List ℕ) (gs hs : List (List ℕ)) → length fs ≡ 2 → fs ≡ f ∷ gs → gs ≡ g ∷ hs → fs ≡ f ∷ g ∷ []
-only_two fs f g gs hs n e d = e ∙ ap (λ (x : List (List ℕ)). f ∷ x) (only_one gs g hs (omega (arith, ap length e)) d)

@@ -12,9 +12,6 @@ use Rattle.script.specs.declared.command.Command.TheVariants as command
 use Rattle.script.proofs.Cuts.{commas_append}
 use Rattle.script.proofs.Numerals.{marked}
 
-pub extends_none : (d : Bounded ℕ) → Extends d [] d
-extends_none d = record { held = sym (append-nil (entries d)); used = omega arith }
-
 module _ (a b c : Bounded ℕ) (xs ys zs : List ℕ) (is : zs ≡ xs ++ ys) (so : Extends a xs b) where
   sum : length zs ≡ length xs + length ys
   sum = ap length is ∙ length-append xs ys

@@ -1,6 +1,5 @@
 pub mod Endings
 pub mod Cuts
-pub mod Misfits
 pub mod Numerals
 pub mod Names
 pub mod Judgement

@@ -66,19 +66,12 @@ impl Command<'_> {
     }
 }
 
-// What follows the word, if these bytes begin with it.
-fn after_word(bytes: &[u8], word: Word) -> Option<&[u8]>
-    ensures { MatchOption result (NotBegun word bytes.now) (λ rest. bytes.now ≡ name word ++ rest.now) }
-{
-    bytes.strip_prefix(word.name())
-}
-
 // The word that these bytes begin with, and what follows it.
 pub(crate) fn split_word(bytes: &[u8]) -> Option<(Word, &[u8])>
     ensures { MatchOption result ((w : Word) → NotBegun w bytes.now) (λ x. bytes.now ≡ name x.0 ++ x.1.now) }
 {
     for word in Word::ALL {
-        if let Some(rest) = after_word(bytes, word) {
+        if let Some(rest) = bytes.strip_prefix(word.name()) {
             return Some((word, rest));
         }
     }

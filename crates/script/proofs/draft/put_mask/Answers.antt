@@ -1,8 +1,7 @@
-use Rattle.std.proofs.Common.{◌≡◌, ℕ, ◌+◌, ◌-◌, ◌/◌, ◌%◌, ◌<◌, List, [], ◌∷◌, ◌++◌, sym, refl, ap, ◌∙◌, subst, arith}
-use Rattle.std.proofs.lemmas.List.{append_assoc, append-nil}
-use Rattle.script.specs.Drafts.{Extends}
+use Rattle.std.proofs.Common.{◌≡◌, ℕ, ◌+◌, ◌-◌, ◌/◌, ◌%◌, ◌<◌, List, [], ◌∷◌, ◌++◌, sym, refl, ap, ◌∙◌, arith}
+use Rattle.std.proofs.lemmas.List.{append_assoc}
 use Rattle.script.specs.Format.{mask, shown, marks}
-use Rattle.script.proofs.Drafting.{extends_none, extends_then, overflows_then, overflows_front, wrote_none, marks_next}
+use Rattle.script.proofs.Drafting.{extends_then, overflows_then, overflows_front, wrote_none, marks_next}
 use Rattle.script.proofs.draft.put_mask.Goals as goal
 
 -- what is left to write begins with this mark
@@ -11,11 +10,6 @@ next done n r set all h e =
     let m : (n - r) - 1 ≡ n - (r + 1) = omega arith in
     e ∙ ap (λ (xs : List ℕ). done ++ xs) (marks_next (n - r) set (omega arith) ∙ ap (λ (j : ℕ). (48 + set % 2) ∷ shown mask (marks j (set / 2))) m)
     ∙ sym (append_assoc done ((48 + set % 2) ∷ []) (shown mask (marks (n - (r + 1)) (set / 2))))
-
-pub loop-init : goal.loop-init
-loop-init c =
-    let n : c.args.m.rigs ≡ c.args.m.rigs - 0 = omega arith in
-    ([], extends_none c.args.draft.now, ap (λ (k : ℕ). shown mask (marks k c.args.m.set)) n)
 
 pub returns-in_err-put : goal.returns-in_err-put
 returns-in_err-put c =
@@ -31,10 +25,3 @@ loop-preserved c =
       extends_then _ _ _ i.0 ((48 + c.loop.left % 2) ∷ []) _ refl i.1 c.in_ok-put.ensures,
       next i.0 c.args.m.rigs c.loop.counter c.loop.left _ c.loop-test.true i.2,
     )
-
-pub returns : goal.returns
-returns c =
-    let i = c.loop.invariant in
-    let z : c.args.m.rigs - c.loop.counter ≡ 0 = omega arith in
-    let all : shown mask (marks c.args.m.rigs c.args.m.set) ≡ i.0 = i.2 ∙ ap (λ (k : ℕ). i.0 ++ shown mask (marks k c.loop.left)) z ∙ append-nil i.0 in
-    subst (λ (xs : List ℕ). Extends c.args.draft.now xs c.loop.draft) (sym all) i.1

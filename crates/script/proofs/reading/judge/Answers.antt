@@ -12,16 +12,12 @@ returns-in_err-word-clause-judged c =
     let n : (w : Word) (fs : List (List ℕ)) → parts c.in_ok-front.front.now ≢ name w ∷ fs = search rules in
     search (rules, unknown _ _ f n)
 
-pub returns-then-count_commas-arity : goal.returns-then-count_commas-arity
-returns-then-count_commas-arity c =
+pub returns-then-count_commas-arity-clause-judged : goal.returns-then-count_commas-arity-clause-judged
+returns-then-count_commas-arity-clause-judged c =
     let f : WellFormed c.args.line.now c.in_ok-front.front.now = search rules in
     let t : Ends c.in_ok-word.rest.now × (parts c.in_ok-front.front.now ≡ name c.in_ok-word.word ∷ after c.in_ok-word.rest.now) = search rules in
-    record {
-      judged =
-          miscounted _ _ f _ _ t.1
-          (λ n. c.if-count_commas-arity.true (c.count_commas.ensures ∙ sym (length_after c.in_ok-word.rest.now t.0) ∙ n ∙ sym c.arity.ensures));
-      tidy = tt;
-    }
+    miscounted _ _ f _ _ t.1
+    (λ n. c.if-count_commas-arity.true (c.count_commas.ensures ∙ sym (length_after c.in_ok-word.rest.now t.0) ∙ n ∙ sym c.arity.ensures))
 
 pub read_fields-requires : goal.read_fields-requires
 read_fields-requires c =

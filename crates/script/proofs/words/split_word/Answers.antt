@@ -1,4 +1,4 @@
-use Rattle.std.proofs.Common.{subst}
+use Rattle.std.proofs.Common.{subst, rules}
 use Rattle.std.proofs.lemmas.List.{take_all}
 use Rattle.std.proofs.lemmas.List.Elements.{All-more}
 use Rattle.std.specs.List.{All}
@@ -8,7 +8,7 @@ use Rattle.script.proofs.Names.{words, every_word}
 use Rattle.script.proofs.words.split_word.Goals as goal
 
 pub loop-word-preserved : goal.loop-word-preserved
-loop-word-preserved c = All-more (λ w. NotBegun w c.args.bytes.now) words c.loop-word.word-index Hall c.loop-word-test.true c.loop-word.invariant c.in_default.ensures
+loop-word-preserved c = All-more (λ w. NotBegun w c.args.bytes.now) words c.loop-word.word-index Hall c.loop-word-test.true c.loop-word.invariant (search rules)
 
 pub returns : goal.returns
 returns c = every_word (λ w. NotBegun w c.args.bytes.now) (subst (All (λ w. NotBegun w c.args.bytes.now)) (take_all c.loop-word.word-index words c.loop-word-test.false) c.loop-word.invariant)

@@ -1,21 +1,14 @@
-use Rattle.std.proofs.Common.{◌≡◌, ℕ, ◌<◌, List, [], ◌++◌, length, drop, refl, ap, ◌∙◌, subst, arith, rules}
-use Rattle.bounded.proofs.Refills.{all_spare}
-use Rattle.bounded.specs.Entries.{entries, spare}
+use Rattle.std.proofs.Common.{◌≡◌, ℕ, ◌<◌, List, [], ◌++◌, length, drop, refl, ap, ◌∙◌, subst, rules}
+use Rattle.bounded.specs.Entries.{entries}
 use Rattle.bounded.specs.declared.Bounded.{Bounded}
 use Rattle.script.specs.Drafts.{Extends}
 use Rattle.script.specs.Format.{Meaning, meaning, line, Accepted, Faulty}
-use Rattle.script.proofs.ReadBack.{Sized, too_long, word_known, reads_itself, written}
+use Rattle.script.proofs.ReadBack.{Sized, word_known, reads_itself, written}
 use Rattle.script.proofs.writing.write.Goals as goal
 
 -- the draft, empty at first, has the line
 drafted : (empty full : Bounded ℕ) (text : List ℕ) (m : Meaning) → entries empty ≡ [] → Extends empty (line m) full → text ≡ entries full → text ≡ line m
 drafted empty full text m e x t = t ∙ x.held ∙ ap (λ (xs : List ℕ). xs ++ line m) e
-
-pub returns-in_err-map_err : goal.returns-in_err-map_err
-returns-in_err-map_err c =
-    let n : length (spare c.new-draft.result) ≡ 81 = ap length (all_spare c.new-draft.result c.new-draft.ensures.empty ∙ c.new-draft.ensures.untouched) in
-    let o : length (spare c.new-draft.result) < length (line (meaning c.args.command)) = search rules in
-    search (rules, too_long (meaning c.args.command) (omega arith))
 
 pub unreachable-requires : goal.unreachable-requires
 unreachable-requires c =

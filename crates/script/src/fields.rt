@@ -1,6 +1,6 @@
-ghost use Rattle.std.specs.Prelude.{◌≡◌, ℕ, ◌^◌, ◌<◌, ◌≤◌, List, [], ◌∷◌, length, take, drop, count_by, MatchOption, MatchResult, nat_eq};
+ghost use Rattle.std.specs.Prelude.{◌≡◌, ℕ, ◌+◌, ◌^◌, ◌<◌, ◌≤◌, List, [], ◌∷◌, length, take, drop, count_by, MatchOption, MatchResult, nat_eq};
 ghost use Rattle.script.specs.Format.{Form, number, count, mask, Good, Fit, shown, marks, Commaless};
-ghost use Rattle.script.specs.Parts.{Ends, after, BadAt, Misfit};
+ghost use Rattle.script.specs.Parts.{Ends, after, BadAt};
 ghost use Rattle.script.specs.declared.faults.LineFault.TheVariants.{BadField};
 ghost use Rattle.std.proofs.Common.{rules};
 
@@ -138,7 +138,7 @@ pub(crate) fn count_commas(bytes: &[u8]) -> usize
 }
 
 // The field after the comma that `rest` begins with, and what follows it.
-pub(crate) fn next_field(rest: &[u8]) -> (&[u8], &[u8])
+fn next_field(rest: &[u8]) -> (&[u8], &[u8])
     requires { 0 < length (after rest.now) }
     ensures parts { after rest.now ≡ result.0.now ∷ after result.1.now }
     ensures ends { Ends result.1.now }
@@ -150,33 +150,46 @@ pub(crate) fn next_field(rest: &[u8]) -> (&[u8], &[u8])
     tail.split_at(comma_at(tail))
 }
 
-// The value of the next field, which is the line's field `k`, and what follows it.
-fn field_at<V: FieldValue>(rest: &[u8], k: u8) -> Result<(V, &[u8]), LineFault>
-    requires { 0 < length (after rest.now) }
-    ensures { MatchResult result (λ x. (f : List ℕ) × V.FieldValue.reads f x.0 × (after rest.now ≡ f ∷ after x.1.now)) (λ e. (e ≡ BadField k) × BadAt V.FieldValue.form (after rest.now)) }
-{
-    let (field, rest) = next_field(rest);
-    let value = V::parse(field).ok_or(LineFault::BadField { field: k })?;
-    Ok((value, rest))
+// The fields that follow the word, taken one after another.
+#[derive(Drop)]
+pub(crate) struct Fields<'a> {
+    // Nothing, or a comma and the fields left.
+    rest: &'a [u8],
+    // The number of the first of them in the line.
+    number: u8,
 }
 
-// The one field that follows the word.
-pub(crate) fn one_field<V: FieldValue>(rest: &[u8]) -> Result<V, LineFault>
-    requires { length (after rest.now) ≡ 1 }
-    ensures { MatchResult result (λ x. (f : List ℕ) × V.FieldValue.reads f x × (after rest.now ≡ f ∷ [])) (λ e. Misfit (V.FieldValue.form ∷ []) (after rest.now) e) }
-{
-    let (value, _) = field_at(rest, 2)?;
-    Ok(value)
-}
+impl<'a> Fields<'a> {
+    // The fields after the word, which is field 1.
+    pub(crate) fn new(rest: &'a [u8]) -> Fields<'a>
+        ensures rest { result.rest.now ≡ rest.now }
+        ensures number { result.number ≡ 2 }
+    {
+        Fields { rest, number: 2 }
+    }
 
-// The two fields that follow the word.
-pub(crate) fn two_fields<V: FieldValue + Drop, W: FieldValue>(
-    rest: &[u8],
-) -> Result<(V, W), LineFault>
-    requires { length (after rest.now) ≡ 2 }
-    ensures { MatchResult result (λ x. (f g : List ℕ) × V.FieldValue.reads f x.0 × W.FieldValue.reads g x.1 × (after rest.now ≡ f ∷ g ∷ [])) (λ e. Misfit (V.FieldValue.form ∷ W.FieldValue.form ∷ []) (after rest.now) e) }
-{
-    let (first, rest) = field_at(rest, 2)?;
-    let (second, _) = field_at(rest, 3)?;
-    Ok((first, second))
+    // The bytes of the next field.
+    pub(crate) fn next_bytes(&mut self) -> &'a [u8]
+        requires left { 0 < length (after self.old.rest.now) }
+        requires few { self.old.number < 255 }
+        ensures parts { after self.old.rest.now ≡ result.now ∷ after self.new.rest.now }
+        ensures whole { Commaless result.now }
+        ensures number { self.new.number ≡ self.old.number + 1 }
+    {
+        let (field, rest) = next_field(self.rest);
+        self.rest = rest;
+        self.number += 1;
+        field
+    }
+
+    // The value of the next field.
+    pub(crate) fn next_value<V: FieldValue>(&mut self) -> Result<V, LineFault>
+        requires left { 0 < length (after self.old.rest.now) }
+        requires few { self.old.number < 255 }
+        ensures value { MatchResult result (λ v. (f : List ℕ) × V.FieldValue.reads f v × (after self.old.rest.now ≡ f ∷ after self.new.rest.now)) (λ e. (e ≡ BadField self.old.number) × BadAt V.FieldValue.form (after self.old.rest.now)) }
+        ensures number { self.new.number ≡ self.old.number + 1 }
+    {
+        let field = self.number;
+        V::parse(self.next_bytes()).ok_or(LineFault::BadField { field })
+    }
 }

@@ -6,7 +6,7 @@ ghost use Rattle.script.specs.Verdicts.{TheLineHasNoOtherVerdict, AnAcceptedLine
 
 use crate::command::{Command, Word};
 use crate::faults::LineFault;
-use crate::fields::{Count, Number, count_commas, next_field, one_field, two_fields};
+use crate::fields::{Count, Fields, Number, count_commas};
 use crate::form::front_of;
 use crate::words::split_word;
 
@@ -26,37 +26,38 @@ fn read_fields<'a>(word: Word, rest: &'a [u8]) -> Result<Command<'a>, LineFault>
     requires { length (after rest.now) ≡ length (shape word) }
     ensures { MatchResult result (λ c. Says word (after rest.now) (meaning c) × Tidy c) (λ e. Misfit (shape word) (after rest.now) e) }
 {
+    let mut fields = Fields::new(rest);
     match word {
         Word::Hall => {
-            let (Number(rigs), Number(types)) = two_fields(rest)?;
+            let Number(rigs) = fields.next_value()?;
+            let Number(types) = fields.next_value()?;
             Ok(Command::Hall { rigs, types })
         }
-        Word::PumpType => Ok(Command::PumpType(one_field(rest)?)),
+        Word::PumpType => Ok(Command::PumpType(fields.next_value()?)),
         Word::Add => {
-            let (Number(kind), Count(count)) = two_fields(rest)?;
+            let Number(kind) = fields.next_value()?;
+            let Count(count) = fields.next_value()?;
             Ok(Command::Add { kind, count })
         }
         Word::Withdraw => {
-            let (Number(kind), Count(count)) = two_fields(rest)?;
+            let Number(kind) = fields.next_value()?;
+            let Count(count) = fields.next_value()?;
             Ok(Command::Withdraw { kind, count })
         }
         Word::Take => {
-            let Number(rig) = one_field(rest)?;
+            let Number(rig) = fields.next_value()?;
             Ok(Command::Take { rig })
         }
         Word::Shut => {
-            let Number(rig) = one_field(rest)?;
+            let Number(rig) = fields.next_value()?;
             Ok(Command::Shut { rig })
         }
         Word::Open => {
-            let Number(rig) = one_field(rest)?;
+            let Number(rig) = fields.next_value()?;
             Ok(Command::Open { rig })
         }
         Word::Report => Ok(Command::Report),
-        Word::Note => {
-            let (text, _) = next_field(rest);
-            Ok(Command::Note(text))
-        }
+        Word::Note => Ok(Command::Note(fields.next_bytes())),
     }
 }
 

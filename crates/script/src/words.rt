@@ -6,6 +6,7 @@ ghost use Rattle.script.specs.declared.command.Word.{Word};
 use crate::command::{Command, Word};
 
 impl Word {
+    // The words, each once.
     const ALL: [Word; 9] = [
         Word::Hall,
         Word::PumpType,

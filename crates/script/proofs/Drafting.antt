@@ -42,6 +42,11 @@ wrote_as a c xs zs r e w = subst (λ (ys : List ℕ). Wrote a ys c r) (sym e) w
 
 -- numbers and masks
 
+pub marks_next : (k set : ℕ) → 0 < k → shown mask (marks k set) ≡ (48 + set % 2) ∷ shown mask (marks (k - 1) (set / 2))
+marks_next k set h =
+    let e : k ≡ suc (k - 1) = omega arith in
+    ap (λ (j : ℕ). shown mask (marks j set)) e ∙ ap (λ (b : ℕ). b ∷ shown mask (marks (k - 1) (set / 2))) (sym (marked (set % 2) (omega arith)))
+
 -- the numbers as they are written, each after its comma
 abbrev pub listed : List ℕ → List ℕ
 listed ns = commas (map decimal ns)
@@ -49,12 +54,10 @@ listed ns = commas (map decimal ns)
 listed_append : (ms ns : List ℕ) → listed (ms ++ ns) ≡ listed ms ++ listed ns
 listed_append ms ns = ap commas (map-append decimal ms ns) ∙ commas_append (map decimal ms) (map decimal ns)
 
--- one more number: its comma, and then its digits
-pub listed_more : (ns : List ℕ) (i : ℕ) → i < length ns → listed (take (i + 1) ns) ≡ (listed (take i ns) ++ 44 ∷ []) ++ decimal (get_or ns i 0)
+pub listed_more : (ns : List ℕ) (i : ℕ) → i < length ns → listed (take (i + 1) ns) ≡ listed (take i ns) ++ 44 ∷ decimal (get_or ns i 0)
 listed_more ns i h =
     ap listed (take_more ns i 0 h) ∙ listed_append (take i ns) (get_or ns i 0 ∷ [])
     ∙ ap (λ (xs : List ℕ). listed (take i ns) ++ 44 ∷ xs) (append-nil (decimal (get_or ns i 0)))
-    ∙ sym (append_assoc (listed (take i ns)) (44 ∷ []) (decimal (get_or ns i 0)))
 
 pub listed_rest : (ns : List ℕ) (i : ℕ) → listed ns ≡ listed (take i ns) ++ listed (drop i ns)
 listed_rest ns i = ap listed (sym (take-append-drop i ns)) ∙ listed_append (take i ns) (drop i ns)
@@ -69,8 +72,3 @@ pub listed_rig : (x : Command) (r : ℕ) → (x ≡ command.Take r) ⊎ ((x ≡ 
 listed_rig x r (inl e) = ap (λ (y : Command). commas (fields (meaning y))) e
 listed_rig x r (inr (inl e)) = ap (λ (y : Command). commas (fields (meaning y))) e
 listed_rig x r (inr (inr e)) = ap (λ (y : Command). commas (fields (meaning y))) e
-
-pub marks_next : (k set : ℕ) → 0 < k → shown mask (marks k set) ≡ (48 + set % 2) ∷ shown mask (marks (k - 1) (set / 2))
-marks_next k set h =
-    let e : k ≡ suc (k - 1) = omega arith in
-    ap (λ (j : ℕ). shown mask (marks j set)) e ∙ ap (λ (b : ℕ). b ∷ shown mask (marks (k - 1) (set / 2))) (sym (marked (set % 2) (omega arith)))

@@ -21,12 +21,6 @@ fn put_all(draft: &mut Bounded<'_, u8>, bytes: &[u8]) -> Result<(), Full>
     Ok(())
 }
 
-fn put_number(draft: &mut Bounded<'_, u8>, n: u16) -> Result<(), Full>
-    ensures { Wrote draft.old (decimal n) draft.new result }
-{
-    put_all(draft, Buffer::new().format(n).as_bytes())
-}
-
 fn put_mask(draft: &mut Bounded<'_, u8>, m: Mask) -> Result<(), Full>
     ensures { Wrote draft.old (shown mask (marks m.rigs m.set)) draft.new result }
 {
@@ -38,12 +32,19 @@ fn put_mask(draft: &mut Bounded<'_, u8>, m: Mask) -> Result<(), Full>
     Ok(())
 }
 
+// A number after its comma.
+fn put_number(draft: &mut Bounded<'_, u8>, n: u16) -> Result<(), Full>
+    ensures { Wrote draft.old (44 ∷ decimal n) draft.new result }
+{
+    put(draft, b',')?;
+    put_all(draft, Buffer::new().format(n).as_bytes())
+}
+
 // Each of the numbers, after its comma.
 fn put_numbers(draft: &mut Bounded<'_, u8>, numbers: &[u16]) -> Result<(), Full>
     ensures { Wrote draft.old (commas (map decimal numbers.now)) draft.new result }
 {
     for n in numbers {
-        put(draft, b',')?;
         put_number(draft, *n)?;
     }
     Ok(())

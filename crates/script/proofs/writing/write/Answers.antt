@@ -12,24 +12,21 @@ drafted empty full text m e x t = t ∙ x.held ∙ ap (λ (xs : List ℕ). xs ++
 
 pub unreachable-requires : goal.unreachable-requires
 unreachable-requires c =
-    let x : Extends c.new-draft.result (line (meaning c.args.command)) c.put_line.new.draft = search rules in
-    let t = drafted _ _ _ (meaning c.args.command) c.new-draft.ensures.empty x c.as_slice-line.ensures in
+    let t : c.as_slice-line.result.now ≡ line (meaning c.args.command) = search (rules, drafted) in
     word_known (meaning c.args.command)
     (subst (Faulty (line (meaning c.args.command))) c.in-UnknownWord.is
     (subst (λ (l : List ℕ). Faulty l c.in-Err.fault) t c.in-Err.ensures.judged))
 
 pub returns-then-out-n : goal.returns-then-out-n
 returns-then-out-n c =
-    let x : Extends c.new-draft.result (line (meaning c.args.command)) c.put_line.new.draft = search rules in
-    let t = drafted _ _ _ (meaning c.args.command) c.new-draft.ensures.empty x c.as_slice-line.ensures in
+    let t : c.as_slice-line.result.now ≡ line (meaning c.args.command) = search (rules, drafted) in
     let s : Sized c.args.command = search rules in
     let a = subst (λ (l : List ℕ). Accepted l (meaning c.in_default.field-0)) t c.in_default.ensures.judged in
     (refl, (reads_itself c.args.command s _ a, subst (λ (l : List ℕ). length c.args.out.now < length l) t c.if-out-n.true))
 
 pub returns : goal.returns
 returns c =
-    let x : Extends c.new-draft.result (line (meaning c.args.command)) c.put_line.new.draft = search rules in
-    let t = drafted _ _ _ (meaning c.args.command) c.new-draft.ensures.empty x c.as_slice-line.ensures in
+    let t : c.as_slice-line.result.now ≡ line (meaning c.args.command) = search (rules, drafted) in
     let s : Sized c.args.command = search rules in
     let a = subst (λ (l : List ℕ). Accepted l (meaning c.in_default.field-0)) t c.in_default.ensures.judged in
     written c.args.out.now _ (meaning c.args.command) _ (ap length t) c.if-out-n.false

@@ -18,6 +18,9 @@ cut_at [] [] h e = refl
 cut_at [] (b ∷ bs) h e = rw e
 cut_at (a ∷ f) rest h e = rw (ne_eqb a 44 h.0, cut_at f rest h.1 e)
 
+pub first_part : (bs : List ℕ) (k : ℕ) → Commaless (take k bs) → Ends (drop k bs) → parts bs ≡ take k bs ∷ after (drop k bs)
+first_part bs k h e = ap parts (sym (take-append-drop k bs)) ∙ cut_at (take k bs) (drop k bs) h e
+
 -- as many parts as commas, and one more
 
 length_onto : (b n : ℕ) (fs : List (List ℕ)) → length fs ≡ n + 1 → length (onto b fs) ≡ n + 1

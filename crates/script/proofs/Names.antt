@@ -2,11 +2,9 @@
 use Rattle.std.proofs.Common.{◌≡◌, ℕ, cond, eqb, List, [], ◌∷◌, ◌++◌, get_or, sym, refl, ap, ◌∙◌, subst, arith, rules}
 use Rattle.std.specs.List.{All}
 use Rattle.std.proofs.lemmas.List.{append_cancel_left}
-use Rattle.script.specs.Format.{name, commas, Commaless}
-use Rattle.script.specs.Parts.{parts, Ends}
+use Rattle.script.specs.Format.{name, Commaless}
 use Rattle.script.specs.declared.command.Word.{Word}
 use Rattle.script.specs.declared.command.Word.TheVariants.{Hall, PumpType, Add, Withdraw, Take, Shut, Open, Report, Note}
-use Rattle.script.proofs.Cuts.{rejoined, ends_commas}
 
 -- the table of the words has every word
 abbrev pub words : List Word
@@ -60,7 +58,3 @@ name_whole Shut = search rules
 name_whole Open = search rules
 name_whole Report = search rules
 name_whole Note = search rules
-
--- bytes that begin with one word and have another as their first part have the same after it
-pub other_word : (bs : List ℕ) (v w : Word) (rest : List ℕ) (fs : List (List ℕ)) → bs ≡ name v ++ rest → parts bs ≡ name w ∷ fs → Ends rest
-other_word bs v w rest fs e p = subst Ends (sym (same_rest v w rest (commas fs) (sym e ∙ rejoined bs (name w) fs p))) (ends_commas fs)

@@ -1,15 +1,11 @@
 -- A line's bytes as reading goes through them: what follows the word, and what follows each field.
 -- Only contracts of inner functions speak of these.
-use Rattle.std.specs.Prelude.{◌≡◌, ℕ, cond, List, [], ◌∷◌, ◌++◌, ◌==◌, ◌≢◌}
-use Rattle.script.specs.Format.{name, Form, Meaning, AllFit, shape, fields, Good, FirstBad}
+use Rattle.std.specs.Prelude.{◌≡◌, ℕ, cond, List, [], ◌∷◌, ◌==◌}
+use Rattle.script.specs.Format.{Form, Meaning, AllFit, shape, fields, Good, FirstBad}
 use Rattle.script.specs.Texts.{onto}
 use Rattle.script.specs.declared.command.Word.{Word}
 use Rattle.script.specs.declared.faults.LineFault.TheVariants.{BadField}
 use Rattle.script.specs.declared.faults.LineFault.{LineFault}
-
--- The bytes do not begin with this word.
-abbrev pub NotBegun : Word → List ℕ → Type 0
-NotBegun w bytes = (rest : List ℕ) → bytes ≢ name w ++ rest
 
 -- Bytes cut at their commas.
 abbrev pub parts : List ℕ → List (List ℕ)

@@ -111,7 +111,7 @@ impl FieldValue for Mask {
 }
 
 // The index of the first comma, or the length.
-fn comma_at(bytes: &[u8]) -> usize
+pub(crate) fn comma_at(bytes: &[u8]) -> usize
     ensures within { result ≤ length bytes.now }
     ensures before { Commaless (take result bytes.now) }
     ensures stops { Ends (drop result bytes.now) }

@@ -1,6 +1,5 @@
-ghost use Rattle.std.specs.Prelude.{◌≡◌, ◌++◌, length, MatchOption};
+ghost use Rattle.std.specs.Prelude.{◌≡◌, ◌≢◌, length, MatchOption};
 ghost use Rattle.script.specs.Format.{name, shape, meaning};
-ghost use Rattle.script.specs.Parts.{NotBegun};
 ghost use Rattle.script.specs.declared.command.Word.{Word};
 
 use crate::command::{Command, Word};
@@ -36,6 +35,18 @@ impl Word {
         }
     }
 
+    // The word that is written so.
+    pub(crate) fn named(bytes: &[u8]) -> Option<Word>
+        ensures { MatchOption result ((w : Word) → bytes.now ≢ name w) (λ w. bytes.now ≡ name w) }
+    {
+        for word in Word::ALL {
+            if word.name() == bytes {
+                return Some(word);
+            }
+        }
+        None
+    }
+
     // How many fields follow the word.
     pub(crate) fn arity(self) -> usize
         ensures { result ≡ length (shape self) }
@@ -65,16 +76,4 @@ impl Command<'_> {
             Command::Note(_) => Word::Note,
         }
     }
-}
-
-// The word that these bytes begin with, and what follows it.
-pub(crate) fn split_word(bytes: &[u8]) -> Option<(Word, &[u8])>
-    ensures { MatchOption result ((w : Word) → NotBegun w bytes.now) (λ x. bytes.now ≡ name x.0 ++ x.1.now) }
-{
-    for word in Word::ALL {
-        if let Some(rest) = bytes.strip_prefix(word.name()) {
-            return Some((word, rest));
-        }
-    }
-    None
 }

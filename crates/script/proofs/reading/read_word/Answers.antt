@@ -1,15 +1,8 @@
-use Rattle.std.proofs.Common.{rules}
-use Rattle.script.specs.Format.{name, commas}
-use Rattle.script.proofs.Cuts.{rejoined}
-use Rattle.script.proofs.Names.{other_word}
+use Rattle.script.proofs.Cuts.{first_part}
 use Rattle.script.proofs.reading.read_word.Goals as goal
 
-pub returns-in_err-word : goal.returns-in_err-word
-returns-in_err-word c =
+pub returns-in_err-named : goal.returns-in_err-named
+returns-in_err-named c =
+    let p = first_part c.args.front.now c.comma_at.result c.comma_at.ensures.before c.comma_at.ensures.stops in
     rw c.from_residual.ensures
-    (λ w fs e. c.in_err-word.ensures w (commas fs) (rejoined c.args.front.now (name w) fs e))
-
-pub returns-in_default : goal.returns-in_default
-returns-in_default c w fs e =
-    let h = other_word c.args.front.now c.in_ok-word.word w c.in_ok-word.rest.now fs c.in_ok-word.ensures e in
-    search rules
+    (λ w fs e. c.in_err-named.ensures w (cc (p, e, c.split_at.ensures.front)))

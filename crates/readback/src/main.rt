@@ -4,8 +4,7 @@
 #![tactic(auto)]
 
 use script::TEXT_MAX;
-use std::io;
-use std::io::{Read, Write};
+use std::io::{self, Read, Write};
 
 mod telling;
 

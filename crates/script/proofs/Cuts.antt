@@ -1,7 +1,7 @@
 -- Bytes cut at their commas, and joined again. Assumes nothing.
-use Rattle.std.proofs.Common.{◌≡◌, ℕ, ◌+◌, ◌-◌, ◌<◌, ◌≤◌, true, false, cond, eqb, List, [], ◌∷◌, ◌++◌, length, get_or, take, drop, count_by, sym, refl, ap, ◌∙◌, subst, ⊎_elim, arith}
+use Rattle.std.proofs.Common.{◌≡◌, ℕ, ◌+◌, ◌-◌, ◌<◌, true, false, cond, eqb, List, [], ◌∷◌, ◌++◌, length, take, drop, count_by, sym, refl, ap, ◌∙◌, ⊎_elim, arith}
 use Rattle.std.specs.List.{AllByRecursion}
-use Rattle.std.proofs.lemmas.List.{drop_more, drop_all, take_all, take-append-drop, append_assoc}
+use Rattle.std.proofs.lemmas.List.{take_all, take-append-drop, append_assoc}
 use Rattle.std.proofs.lemmas.List.Sums.{sum_by-cons}
 use Rattle.std.proofs.lemmas.Bool.{ne_eqb}
 use Rattle.std.proofs.lemmas.Bool.Decides.{eqb_tells}
@@ -18,8 +18,10 @@ cut_at [] [] h e = refl
 cut_at [] (b ∷ bs) h e = rw e
 cut_at (a ∷ f) rest h e = rw (ne_eqb a 44 h.0, cut_at f rest h.1 e)
 
-pub first_part : (bs : List ℕ) (k : ℕ) → Commaless (take k bs) → Ends (drop k bs) → parts bs ≡ take k bs ∷ after (drop k bs)
-first_part bs k h e = ap parts (sym (take-append-drop k bs)) ∙ cut_at (take k bs) (drop k bs) h e
+pub first_part : (bs f r : List ℕ) (k : ℕ) → f ≡ take k bs → r ≡ drop k bs → Commaless f → Ends r → parts bs ≡ f ∷ after r
+first_part bs f r k p q h e =
+    let whole : f ++ r ≡ bs = ap (λ (x : List ℕ). x ++ r) p ∙ ap (λ (x : List ℕ). take k bs ++ x) q ∙ take-append-drop k bs in
+    ap parts (sym whole) ∙ cut_at f r h e
 
 -- as many parts as commas, and one more
 
@@ -96,18 +98,7 @@ commas_append [] gs = refl
 commas_append (f ∷ fs) gs =
     ap (λ (xs : List ℕ). 44 ∷ (f ++ xs)) (commas_append fs gs) ∙ ap (λ (xs : List ℕ). 44 ∷ xs) (sym (append_assoc f (commas fs) (commas gs)))
 
--- where a search for a comma stops
-
-pub ends_drop : (xs : List ℕ) (i : ℕ) → i < length xs → get_or xs i 0 ≡ 44 → Ends (drop i xs)
-ends_drop xs i h e = subst Ends (sym (drop_more xs i 0 h)) e
-
-pub ends_all : (xs : List ℕ) (i : ℕ) → length xs ≤ i → Ends (drop i xs)
-ends_all xs i h = subst Ends (sym (drop_all i xs h)) tt
-
--- the first byte is a comma, and the next field goes to the next comma
-pub next_is : (xs f r : List ℕ) (k : ℕ) → 0 < length xs → f ≡ take k (take (length xs - 1) (drop 1 xs)) → r ≡ drop k (take (length xs - 1) (drop 1 xs)) → Commaless f → Ends r → after xs ≡ f ∷ after r
-next_is [] f r k h p q nf er = absurd (omega arith)
-next_is (x ∷ xs) f r k h p q nf er =
-    let t : take (length (x ∷ xs) - 1) xs ≡ xs = take_all _ xs (omega arith) in
-    let u : f ++ r ≡ take (length (x ∷ xs) - 1) xs = ap (λ (y : List ℕ). y ++ r) p ∙ ap (λ (y : List ℕ). take k (take (length (x ∷ xs) - 1) xs) ++ y) q ∙ take-append-drop k _ in
-    ap parts (sym (u ∙ t)) ∙ cut_at f r nf er
+-- the first byte is a comma, and the fields stand after it
+pub after_is : (xs : List ℕ) → 0 < length xs → after xs ≡ parts (take (length xs - 1) (drop 1 xs))
+after_is [] h = absurd (omega arith)
+after_is (x ∷ xs) h = ap parts (sym (take_all _ xs (omega arith)))

@@ -1,4 +1,4 @@
-pub mod Endings
+pub mod Firsts
 pub mod Cuts
 pub mod Numerals
 pub mod Names

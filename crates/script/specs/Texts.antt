@@ -6,6 +6,7 @@ use Rattle.script.specs.Format.{Meaning}
 use Rattle.script.specs.Verdicts.{Judged, accepted, faulty}
 use Rattle.script.specs.declared.faults.FaultyLine.{FaultyLine}
 use Rattle.script.specs.declared.faults.LineFault.{LineFault}
+use Rattle.script.specs.declared.lines.Lines.{Lines}
 
 -- A text within the limit, and one beyond it.
 abbrev pub Within : List ℕ → Type 0
@@ -23,6 +24,10 @@ onto b (l ∷ ls) = (b ∷ l) ∷ ls
 abbrev pub lines : List ℕ → List (List ℕ)
 lines [] = []
 lines (b ∷ bs) = cond (b == 10) ((b ∷ []) ∷ lines bs) (onto b (lines bs))
+
+-- The lines that are still to come.
+abbrev pub lines_left : Lines → List (List ℕ)
+lines_left s = lines s.rest.now
 
 -- These are the faulty ones of the lines, in order, each with its number; the first line has the number n.
 pub data FaultyOnes : ℕ → List (List ℕ) → List FaultyLine → Type 0 where

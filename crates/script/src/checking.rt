@@ -5,7 +5,7 @@ ghost use Rattle.script.specs.Texts.{TheListIsExactlyTheFaultyLines, RefusedUnto
 ghost use Rattle.script.specs.Verdicts.{Judged, accepted, faulty};
 
 use crate::faults::FaultyLine;
-use crate::lines::first_line;
+use crate::lines::Lines;
 use crate::reading::read;
 use bounded::Bounded;
 
@@ -51,17 +51,13 @@ pub fn check(text: &[u8], faults: &mut Bounded<'_, FaultyLine>) -> Result<usize,
         return Err(TextRefusal::TooLong);
     }
     faults.clear();
-    let mut rest = text;
-    let mut number: u32 = 1;
-    let mut found: usize = 0;
-    while let Some((line, tail)) = first_line(rest) {
+    let mut found = 0;
+    for (number, line) in (1..).zip(Lines::new(text)) {
         if let Some(entry) = faulty_line(number, line) {
             // A full list keeps the first ones.
             let _ = faults.push(entry);
             found += 1;
         }
-        number += 1;
-        rest = tail;
     }
     Ok(found)
 }

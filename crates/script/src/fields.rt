@@ -1,6 +1,6 @@
-ghost use Rattle.std.specs.Prelude.{◌≡◌, ℕ, ◌+◌, ◌^◌, ◌<◌, ◌≤◌, List, [], ◌∷◌, length, take, drop, count_by, MatchOption, MatchResult, nat_eq};
+ghost use Rattle.std.specs.Prelude.{◌≡◌, ℕ, ◌+◌, ◌^◌, ◌<◌, List, [], ◌∷◌, length, count_by, MatchOption, MatchResult, ◌==◌};
 ghost use Rattle.script.specs.Format.{Form, number, count, mask, Good, Fit, shown, marks, Commaless};
-ghost use Rattle.script.specs.Parts.{Ends, after, BadAt};
+ghost use Rattle.script.specs.Parts.{parts, Ends, after, BadAt};
 ghost use Rattle.script.specs.declared.faults.LineFault.TheVariants.{BadField};
 ghost use Rattle.std.proofs.Common.{rules};
 
@@ -12,9 +12,6 @@ const COUNT_MAX: u16 = 4096;
 
 /// The most characters that a mask has.
 const MASK_MAX: usize = 64;
-
-/// The most digits that a number has, as 65,535.
-const DIGITS_MAX: usize = 5;
 
 /// What one field holds.
 pub(crate) trait FieldValue: Sized {
@@ -46,24 +43,12 @@ impl FieldValue for Number {
     ghost good = { Prim.search rules };
 
     fn parse(field: &[u8]) -> Option<Number> {
-        if let [b'0', _, ..] = field {
+        // `str::parse` takes a plus sign and needless zeros too.
+        if matches!(field, [b'+', ..] | [b'0', _, ..]) {
             return None;
         }
-        if field.is_empty() || field.len() > DIGITS_MAX {
-            return None;
-        }
-        let mut n: u32 = 0;
-        for b in field {
-            if *b < b'0' || *b > b'9' {
-                return None;
-            }
-            n = n * 10 + u32::from(*b - b'0');
-        }
-        if n <= 65535 {
-            Some(Number(n as u16))
-        } else {
-            None
-        }
+        let text = str::from_utf8(field).ok()?;
+        Some(Number(text.parse().ok()?))
     }
 }
 
@@ -75,12 +60,8 @@ impl FieldValue for Count {
     ghost good = { Prim.search rules };
 
     fn parse(field: &[u8]) -> Option<Count> {
-        let n = <Number as FieldValue>::parse(field)?.0;
-        if n >= 1 && n <= COUNT_MAX {
-            Some(Count(n))
-        } else {
-            None
-        }
+        let Number(n) = Number::parse(field)?;
+        (1..=COUNT_MAX).contains(&n).then_some(Count(n))
     }
 }
 
@@ -96,12 +77,13 @@ impl FieldValue for Mask {
             return None;
         }
         let mut set: u64 = 0;
-        for r in (0..field.len()).rev() {
-            let b = field[r];
-            if b < b'0' || b > b'1' {
-                return None;
-            }
-            set = set * 2 + u64::from(b - b'0');
+        for b in field.iter().rev() {
+            let bit = match b {
+                b'0' => 0,
+                b'1' => 1,
+                _ => return None,
+            };
+            set = set * 2 + bit;
         }
         Some(Mask {
             rigs: field.len() as u8,
@@ -110,31 +92,21 @@ impl FieldValue for Mask {
     }
 }
 
-// The index of the first comma, or the length.
-pub(crate) fn comma_at(bytes: &[u8]) -> usize
-    ensures within { result ≤ length bytes.now }
-    ensures before { Commaless (take result bytes.now) }
-    ensures stops { Ends (drop result bytes.now) }
+// The bytes before the first comma, and the rest: nothing, or that comma and what follows it.
+pub(crate) fn cut_field(bytes: &[u8]) -> (&[u8], &[u8])
+    ensures cut { parts bytes.now ≡ result.0.now ∷ after result.1.now }
+    ensures ends { Ends result.1.now }
+    ensures whole { Commaless result.0.now }
 {
-    for (i, b) in bytes.iter().enumerate() {
-        if *b == b',' {
-            return i;
-        }
-    }
-    bytes.len()
+    let end = bytes.iter().position(|b| *b == b',');
+    bytes.split_at(end.unwrap_or(bytes.len()))
 }
 
 // How many fields follow, each after its comma.
 pub(crate) fn count_commas(bytes: &[u8]) -> usize
-    ensures { result ≡ count_by (λ b. nat_eq b 44) bytes.now }
+    ensures { result ≡ count_by (λ b. b == 44) bytes.now }
 {
-    let mut n = 0;
-    for b in bytes {
-        if *b == b',' {
-            n += 1;
-        }
-    }
-    n
+    bytes.iter().filter(|b| **b == b',').count()
 }
 
 // The field after the comma that `rest` begins with, and what follows it.
@@ -147,7 +119,7 @@ fn next_field(rest: &[u8]) -> (&[u8], &[u8])
     let [_, tail @ ..] = rest else {
         return (rest, rest);
     };
-    tail.split_at(comma_at(tail))
+    cut_field(tail)
 }
 
 // The fields that follow the word, taken one after another.

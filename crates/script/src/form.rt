@@ -8,15 +8,11 @@ pub(crate) const LINE_MAX: usize = 80;
 /// The most bytes that a well-formed line has, its end byte among them.
 pub const LINE_BYTES: usize = LINE_MAX + 1;
 
+// All bytes are from 32 to 126.
 fn is_printable(bytes: &[u8]) -> bool
     ensures { MatchBool result (AllByRecursion Printable bytes.now) (AllByRecursion Printable bytes.now → ⊥) }
 {
-    for b in bytes {
-        if *b < 32 || *b > 126 {
-            return false;
-        }
-    }
-    true
+    bytes.iter().all(|b| matches!(b, b' '..=b'~'))
 }
 
 // The bytes before the end byte, if the line is well formed.
@@ -26,9 +22,5 @@ pub(crate) fn front_of(line: &[u8]) -> Option<&[u8]>
     let [front @ .., b'\n'] = line else {
         return None;
     };
-    if front.len() <= LINE_MAX && is_printable(front) {
-        Some(front)
-    } else {
-        None
-    }
+    (front.len() <= LINE_MAX && is_printable(front)).then_some(front)
 }

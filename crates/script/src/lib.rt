@@ -18,6 +18,6 @@ pub use checking::{TEXT_MAX, TextRefusal, check};
 pub use command::{Command, Mask};
 pub use faults::{FaultyLine, LineFault};
 pub use form::LINE_BYTES;
-pub use lines::first_line;
+pub use lines::{Lines, first_line};
 pub use reading::read;
 pub use writing::{WriteRefusal, write};

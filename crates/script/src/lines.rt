@@ -1,28 +1,41 @@
-ghost use Rattle.std.specs.Prelude.{◌≡◌, ◌<◌, ◌≤◌, [], length, take, drop, MatchOption};
-ghost use Rattle.script.specs.Texts.{StartsWith};
-
-// The length of the first line, its end byte included.
-fn line_len(text: &[u8]) -> usize
-    requires { 0 < length text.now }
-    ensures within { result ≤ length text.now }
-    ensures starts { StartsWith text.now (take result text.now) (drop result text.now) }
-{
-    for (i, b) in text.iter().enumerate() {
-        if *b == b'\n' {
-            return i + 1;
-        }
-    }
-    text.len()
-}
+ghost use Rattle.std.specs.Prelude.{◌≡◌, [], MatchOption};
+ghost use Rattle.std.specs.Iterator.{YieldsFirstRef, item_count};
+ghost use Rattle.script.specs.Texts.{lines, lines_left, StartsWith};
 
 /// The first line of a text, with its end byte if it has one, and what follows it.
 /// Only an empty text has no line.
 pub fn first_line(text: &[u8]) -> Option<(&[u8], &[u8])>
     ensures { MatchOption result (text.now ≡ []) (λ x. StartsWith text.now x.0.now x.1.now) }
 {
-    if text.is_empty() {
-        None
-    } else {
-        Some(text.split_at(line_len(text)))
+    let line = text.split_inclusive(|b| *b == b'\n').next()?;
+    Some(text.split_at(line.len()))
+}
+
+/// Goes through the lines of a text in order, each with its end byte if it has one.
+#[derive(Drop)]
+pub struct Lines<'a> {
+    rest: &'a [u8],
+}
+
+impl<'a> Lines<'a> {
+    /// The lines of a text.
+    pub fn new(text: &'a [u8]) -> Lines<'a>
+        ensures { lines_left result ≡ lines text.now }
+    {
+        Lines { rest: text }
+    }
+}
+
+impl<'a> Iterator for Lines<'a> {
+    type Item = &'a [u8];
+
+    ghost next_gives = { YieldsFirstRef lines_left };
+
+    ghost remaining = { item_count lines_left };
+
+    fn next(&mut self) -> Option<&'a [u8]> {
+        let (line, rest) = first_line(self.rest)?;
+        self.rest = rest;
+        Some(line)
     }
 }

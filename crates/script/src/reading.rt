@@ -6,14 +6,14 @@ ghost use Rattle.script.specs.Verdicts.{TheLineHasNoOtherVerdict, AnAcceptedLine
 
 use crate::command::{Command, Word};
 use crate::faults::LineFault;
-use crate::fields::{Count, Fields, Number, comma_at, count_commas};
+use crate::fields::{Count, Fields, Number, count_commas, cut_field};
 use crate::form::front_of;
 
 // The command word, and what follows it: nothing, or a comma and the fields.
 fn read_word(front: &[u8]) -> Option<(Word, &[u8])>
     ensures { MatchOption result ((w : Word) (fs : List (List ℕ)) → parts front.now ≢ name w ∷ fs) (λ x. Ends x.1.now × (parts front.now ≡ name x.0 ∷ after x.1.now)) }
 {
-    let (first, rest) = front.split_at(comma_at(front));
+    let (first, rest) = cut_field(front);
     Some((Word::named(first)?, rest))
 }
 

@@ -1,34 +1,19 @@
-use Rattle.std.proofs.Common.{◌≡◌, ℕ, ◌+◌, ◌-◌, ◌<◌, ◌≤◌, length, get_or, subst, arith, rules}
-use Rattle.std.proofs.ByRecursion.{All-get_or}
-use Rattle.script.proofs.Numerals.{Bit, Tail, length_marks, masked_of, tail_none, tail_more, tail_all}
+use Rattle.std.proofs.Common.{◌≡◌, ◌+◌, ◌<◌, length, arith}
+use Rattle.std.proofs.lemmas.List.{length_push}
+use Rattle.std.proofs.lemmas.Iterator.Adapters.{YieldsList-from_rev_slice}
+use Rattle.std.proofs.lemmas.Iterator.Consumers.{YieldsList-turn}
+use Rattle.script.proofs.Numerals.{masked_at, tail_more}
 use Rattle.script.proofs.fields.MaskFieldValue.parse.Goals as goal
-use Rattle.script.proofs.fields.MaskFieldValue.parse.Goals.{then-b-lt48-via-then-b-lt48, then-b-lt48-via-else-b-lt48+then-b-gt49}
+use Rattle.script.proofs.fields.MaskFieldValue.parse.Goals.{in-48, in-49}
 
-pub returns-then-is_empty : goal.returns-then-is_empty
-returns-then-is_empty c g = let q = masked_of c.args.field.now g in search rules
+pub returns-in_default : goal.returns-in_default
+returns-in_default c g =
+    let t = YieldsList-turn (YieldsList-from_rev_slice c.args.field.now cc) c.loop-b.yielded _ c.loop-b.yielded_by _ _ c.in-Some.b c.in-Some.is c.next.ensures.steps in
+    omega (arith, masked_at c.args.field.now g _ _ t.0 t.1)
 
-pub loop-r-init : goal.loop-r-init
-loop-r-init c = tail_none c.args.field.now
-
-pub returns-then-b-lt48 : goal.returns-then-b-lt48
-returns-then-b-lt48 c g =
-    let q = masked_of c.args.field.now g in
-    let p = All-get_or Bit c.args.field.now (c.loop-r.r - 1) 0 (omega arith) q.bits in
-    elim c.then-b-lt48.branch [
-      | then-b-lt48-via-then-b-lt48 w ↦ omega (arith, p)
-      | then-b-lt48-via-else-b-lt48+then-b-gt49 w ↦ omega (arith, p)
-    ]
-
-pub loop-r-preserved : goal.loop-r-preserved
-loop-r-preserved c =
-    let d : c.from.result < 2 = omega arith in
-    let x : get_or c.args.field.now (c.loop-r.r - 1) 0 ≡ 48 + c.from.result = omega arith in
-    tail_more c.args.field.now c.loop-r.r c.loop-r.set c.from.result c.loop-r-test.true c.loop-r.auto.r x d c.loop-r.invariant
-
-pub returns : goal.returns
-returns c =
-    let s : 1 ≤ length c.args.field.now = search rules in
-    let n = length_marks (length c.args.field.now) c.loop-r.set in
-    let z : c.loop-r.r ≡ 0 = omega arith in
-    let t = tail_all c.args.field.now c.loop-r.set (subst (λ (r : ℕ). Tail c.args.field.now r c.loop-r.set) z c.loop-r.invariant) in
-    ((omega (arith, n), omega (arith, n, c.if-field-gt-MASK_MAX.false)), t.1, t.0)
+pub loop-b-preserved : goal.loop-b-preserved
+loop-b-preserved c =
+    let t = YieldsList-turn (YieldsList-from_rev_slice c.args.field.now cc) c.loop-b.yielded _ c.loop-b.yielded_by _ _ c.in-Some.b c.in-Some.is c.next.ensures.steps in
+    let k : (c.in-Some.b.now ≡ 48 + c.match-b.bit) × (c.match-b.bit < 2) =
+    elim c.match-b.branch [ in-48 w ↦ (omega arith, omega arith) | in-49 w ↦ (omega arith, omega arith) ] in
+    tail_more c.args.field.now (length c.loop-b.yielded) _ _ _ _ t.0 t.1 (length_push c.loop-b.yielded c.in-Some.b) k.0 k.1 c.loop-b.invariant

@@ -2,54 +2,46 @@ use script::{Command, Mask, WriteRefusal, write};
 
 const LONG: [u8; 76] = [b'x'; 76];
 
+fn add(kind: u16, count: u16) -> Command<'static> {
+    Command::Add { kind, count }
+}
+
+fn pump_type(rigs: u8, set: u64) -> Command<'static> {
+    Command::PumpType(Mask { rigs, set })
+}
+
 #[test]
 fn later_bytes_stay(rt: HostRuntime) {
     let mut out = [7; 12];
-    assert_eq!(rt; write(Command::Add { kind: 5, count: 12 }, &mut out), Ok(9));
+    assert_eq!(rt; write(add(5, 12), &mut out), Ok(9));
     assert_eq!(rt; &out, b"ADD,5,12\n\x07\x07\x07");
 }
 
 #[test]
 fn a_refusal_changes_no_byte(rt: HostRuntime) {
     let mut out = [7; 8];
-    assert_eq!(rt;
-        write(Command::Add { kind: 5, count: 12 }, &mut out),
-        Err(WriteRefusal::NoRoom)
-    );
-    assert_eq!(rt;
-        write(Command::Add { kind: 5, count: 0 }, &mut out),
-        Err(WriteRefusal::BadField)
-    );
+    assert_eq!(rt; write(add(5, 12), &mut out), Err(WriteRefusal::NoRoom));
+    assert_eq!(rt; write(add(5, 0), &mut out), Err(WriteRefusal::BadField));
     assert_eq!(rt; &out, &[7; 8]);
 }
 
 #[test]
 fn marks_past_the_last_rig_are_no_part_of_a_mask(rt: HostRuntime) {
     let mut out = [7; 9];
-    let mask = Mask {
-        rigs: 2,
-        set: 0b110,
-    };
-    assert_eq!(rt; write(Command::PumpType(mask), &mut out), Ok(8));
+    assert_eq!(rt; write(pump_type(2, 0b110), &mut out), Ok(8));
     assert_eq!(rt; &out, b"TYPE,01\n\x07");
 }
 
 #[test]
-fn numbers(rt: HostRuntime) {
+fn values(rt: HostRuntime) {
     let mut out = [7; 81];
-    let mut told = |kind, count| write(Command::Add { kind, count }, &mut out);
-    assert_eq!(rt; told(65535, 4096), Ok(15));
-    assert_eq!(rt; told(5, 4097), Err(WriteRefusal::BadField));
-}
-
-#[test]
-fn masks(rt: HostRuntime) {
-    let mut out = [7; 81];
-    let mut told = |rigs, set| write(Command::PumpType(Mask { rigs, set }), &mut out);
-    assert_eq!(rt; told(0, 0), Err(WriteRefusal::BadField));
-    assert_eq!(rt; told(64, u64::MAX), Ok(70));
-    assert_eq!(rt; told(65, 0), Err(WriteRefusal::BadField));
-    assert_eq!(rt; told(76, 0), Err(WriteRefusal::Malformed));
+    let mut told = |command| write(command, &mut out);
+    assert_eq!(rt; told(add(65535, 4096)), Ok(15));
+    assert_eq!(rt; told(add(5, 4097)), Err(WriteRefusal::BadField));
+    assert_eq!(rt; told(pump_type(0, 0)), Err(WriteRefusal::BadField));
+    assert_eq!(rt; told(pump_type(64, u64::MAX)), Ok(70));
+    assert_eq!(rt; told(pump_type(65, 0)), Err(WriteRefusal::BadField));
+    assert_eq!(rt; told(pump_type(76, 0)), Err(WriteRefusal::Malformed));
 }
 
 #[test]

@@ -1,6 +1,7 @@
 -- Numerals without needless zeros, and masks of ones and zeros. Assumes nothing.
-use Rattle.std.proofs.Common.{◌≡◌, ℕ, ◌+◌, ◌-◌, ◌*◌, ◌/◌, ◌%◌, ◌^◌, ◌<◌, ◌≤◌, Bool, true, false, cond, eqb, Ok, Result, List, [], ◌∷◌, length, get_or, drop, reverse, decimal, sym, ap, ◌∙◌, subst, ⊎_elim, pow-suc, add-one, arith}
+use Rattle.std.proofs.Common.{◌≡◌, ℕ, ◌+◌, ◌-◌, ◌*◌, ◌/◌, ◌%◌, ◌^◌, ◌<◌, ◌≤◌, Bool, true, false, cond, eqb, Ok, Result, List, [], ◌∷◌, length, get_or, drop, reverse, decimal, sym, ap, ◌∙◌, subst, ⊎_elim, pow-suc, add-one, arith, refl, MatchOption}
 use Rattle.std.specs.List.{AllByRecursion}
+use Rattle.std.specs.Bool.{then_some}
 use Rattle.std.specs.Str.{IsUtf8}
 use Rattle.std.specs.Str.Parse.{AllDigits, ParsesUnsigned, digits_value}
 use Rattle.std.proofs.lemmas.Str.{IsUtf8-from_ascii}
@@ -10,7 +11,8 @@ use Rattle.std.proofs.lemmas.Bool.{cases_eq}
 use Rattle.std.proofs.lemmas.List.{drop_more, get_or-reverse, length-reverse}
 use Rattle.std.proofs.lemmas.List.Elements.{All-from_recursion}
 use Rattle.std.proofs.lemmas.Bool.Decides.{nat_tests}
-use Rattle.script.specs.Format.{Good, number, count, mask, shown, marks}
+use Rattle.script.specs.Format.{Good, Fit, number, count, mask, shown, marks}
+use Rattle.script.specs.declared.fields.Count.{Count}
 
 own : IsNumeralModel (AllDigits 10) (digits_value 10)
 own = numerals_by_value (AllDigits 10) tells_digits
@@ -106,3 +108,8 @@ pub counted : (n : ℕ) (f : List ℕ) → n ≤ 65535 → f ≡ decimal n → G
 counted n f h e g =
     let s : n ≡ g.0 = decimal_injective n g.0 (omega arith) (omega (arith, g.1)) (sym e ∙ g.2) in
     (omega (arith, g.1), omega (arith, g.1))
+
+pub count_if : (n : ℕ) (f : List ℕ) → n ≤ 65535 → f ≡ decimal n → (fits : Bool) → (fits ≡ true → (1 ≤ n) × (n ≤ 4096)) → (fits ≡ false → (1 ≤ n) × (n ≤ 4096) → ⊥) →
+    MatchOption (then_some fits (record { 0 = n })) (Good count f → ⊥) (λ (v : Count). Fit count v.0 × (f ≡ shown count v.0))
+count_if n f h e true low high = (low refl, e)
+count_if n f h e false low high = λ g. high refl (counted n f h e g)

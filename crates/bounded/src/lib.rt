@@ -9,7 +9,7 @@ ghost use Rattle.std.specs.Prelude.{◌≤◌, length};
 #[derive(Clone, Copy, PartialEq, Eq, Debug)]
 pub struct Full;
 
-/// A list in places lent by its owner: the first `used` of them hold its entries, in order.
+/// A list in places lent by its owner: the first `used` of them hold its entries, in order. It takes no memory of its own.
 #[derive(Drop)]
 pub struct Bounded<'a, E> {
     places: &'a mut [E],
@@ -20,6 +20,8 @@ pub struct Bounded<'a, E> {
 impl<'a, E: Copy> Bounded<'a, E> {
     ghost use Rattle.std.specs.Prelude.{◌≡◌, ◌+◌, ◌<◌, ◌≤◌, [], length, MatchOption, MatchResult, slice_index_or, slice_set};
     ghost use Rattle.bounded.specs.Entries.{entries, spare, Joins, Stays};
+
+    // Each call says by `lender` that the places stay the owner's: that ties two states, so no ghost field can say it.
 
     /// An empty list in the places lent. The places stay as they are.
     pub fn new(places: &'a mut [E]) -> Bounded<'a, E>
@@ -75,6 +77,7 @@ impl<'a, E: Copy> Bounded<'a, E> {
         if self.used == self.places.len() {
             return Err(Full);
         }
+        // By index, since a slice's `get_mut` says nothing of what the slice ends as.
         self.places[self.used] = entry;
         self.used += 1;
         Ok(())

@@ -7,7 +7,7 @@ use bounded::Bounded;
 use script::{LINE_BYTES, Lines, check, read, write};
 use std::alloc::{AllocError, Global};
 
-// Appends the line that tells a fault.
+// Appends the line that tells a fault, by its number: a line's fault and a text's refusal are told alike.
 fn tell_fault(out: &mut Vec<u8>, number: u32, cause: u8, field: u8) -> Result<(), AllocError>
     ensures { OnOk result (out.new.items ≡ out.old.items ++ fault_told number cause field) }
 {
@@ -21,6 +21,7 @@ fn tell_line(out: &mut Vec<u8>, number: u32, line: &[u8]) -> Result<(), AllocErr
 {
     match read(line) {
         Ok(command) => {
+            // `write` fills bytes that it is lent.
             let mut again = [0; LINE_BYTES];
             // What was read can be written.
             let n = write(command, &mut again).unwrap();

@@ -3,8 +3,8 @@ use Rattle.std.proofs.Common.{◌≡◌, ℕ, suc, ◌+◌, ◌≤◌, Bool, tru
 use Rattle.std.specs.List.{AllByRecursion}
 use Rattle.std.specs.Str.Parse.{digits_value}
 use Rattle.std.proofs.lemmas.Fmt.{decimal_is_IsNumeral}
-use Rattle.std.proofs.ByRecursion.{All-from_get_or}
-use Rattle.std.proofs.lemmas.List.{same_from_push, append-nil}
+use Rattle.std.proofs.lemmas.List.{same_from_push, append-nil, get_or_default}
+use Rattle.std.proofs.lemmas.List.Elements.{recursion_from_All}
 use Rattle.std.proofs.lemmas.Str.Parse.{digit_at}
 use Rattle.script.specs.Format.{name, shape, Form, number, count, mask, text, Value, Fit, shown, Values, AllFit, shown_all, Meaning, fields, commas, front, NotComma, Commaless, WellFormed, Accepted, Parted, FirstBad, Faulty}
 use Rattle.script.specs.Parts.{parts, after}
@@ -32,7 +32,9 @@ held_from_fit mask ms h = tt
 held_from_fit text t h = tt
 
 decimal_whole : (n : ℕ) → n ≤ 65535 → Commaless (decimal n)
-decimal_whole n h = All-from_get_or NotComma (decimal n) 0 (λ i l e. let d = digit_at (decimal n) i (decimal_is_IsNumeral n (omega arith)).0.1 l in omega (arith, d))
+decimal_whole n h =
+    recursion_from_All NotComma (decimal n)
+    (λ i x l e. let d = digit_at (decimal n) i (decimal_is_IsNumeral n (omega arith)).0.1 l in omega (arith, d, get_or_default (decimal n) i x 0 l))
 
 mark_apart : (m : Bool) → NotComma (cond m 49 48)
 mark_apart true e = omega arith

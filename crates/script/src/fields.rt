@@ -86,6 +86,7 @@ impl FieldValue for Mask {
             set = set * 2 + bit;
         }
         Some(Mask {
+            // At most 64: `try_from` would add a refusal that never comes.
             rigs: field.len() as u8,
             set,
         })

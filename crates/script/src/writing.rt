@@ -32,7 +32,7 @@ impl From<WriteRefusal> for u8 {
     }
 }
 
-/// Writes a command's line, end byte included, at the start of `out` and answers its length.
+/// Writes a command's line, end byte included, at the start of `out` and answers its length, as no memory is taken.
 /// The bytes after it stay; at a refusal all do.
 pub fn write(command: Command<'_>, out: &mut [u8]) -> Result<usize, WriteRefusal>
     ensures { MatchResult result (λ n. Written out.old (meaning command.entry) n out.new) (λ e. (out.new ≡ out.old) × Unwritten (meaning command.entry) (length out.old) e) }
@@ -42,7 +42,7 @@ pub fn write(command: Command<'_>, out: &mut [u8]) -> Result<usize, WriteRefusal
     // What the draft has no place for is over 80 bytes.
     put_line(&mut draft, command).map_err(|_| WriteRefusal::Malformed)?;
     let line = draft.as_slice();
-    // The line is judged as any line is; its word is known.
+    // The line is judged as any line is. No `From` maps its fault, since an unknown word can't come here alone.
     if let Err(fault) = read(line) {
         return Err(match fault {
             LineFault::Malformed => WriteRefusal::Malformed,

@@ -5,7 +5,7 @@ use rigset::RigSet;
 use std::array;
 
 /// What was read of a whole sheet: its rigs, its types, and the permitted set of each type. The places past the last
-/// type have the empty set.
+/// type have the empty set; memory is fixed, so there is a place for each type that a hall can have.
 #[derive(Drop)]
 pub struct Reading {
     pub rigs: usize,

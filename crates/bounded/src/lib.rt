@@ -18,7 +18,7 @@ pub struct Bounded<'a, E> {
 }
 
 impl<'a, E: Copy> Bounded<'a, E> {
-    ghost use Rattle.std.specs.Prelude.{◌≡◌, ◌+◌, ◌<◌, ◌≤◌, [], length, MatchOption, MatchResult, slice_index_or, slice_set};
+    ghost use Rattle.std.specs.Prelude.{◌≡◌, ◌<◌, [], MatchOption, MatchResult, slice_index_or};
     ghost use Rattle.bounded.specs.Entries.{entries, spare, Joins, Stays};
 
     // Each call says by `lender` that the places stay the owner's: that ties two states, so no ghost field can say it.

@@ -27,12 +27,12 @@ impl Order<'_> {
         set
     }
 
-    // Whether the table, which has as many entries as there are rigs, holds each rig once. It does if each is there at all.
-    fn holds_each(self, rigs: usize) -> bool
-        requires { (rigs ≤ 64) × (length self.0.now ≡ rigs) }
-        ensures { Decides result (EachOnce rigs self.entry.0.now) }
+    // Whether the table holds each rig once, where it has as many entries as there are rigs. It does if each is there at all.
+    fn holds_each(self) -> bool
+        requires { length self.0.now ≤ 64 }
+        ensures { Decides result (EachOnce (length self.entry.0.now) self.entry.0.now) }
     {
-        RigSet::below(rigs).is_subset(self.named())
+        RigSet::below(self.0.len()).is_subset(self.named())
     }
 
     // The number that a rig has below.
@@ -68,11 +68,10 @@ impl Table for Order<'_> {
     }
 
     fn judge<S: Sheet>(&self, below: &S) -> Result<(), FillRefusal> {
-        let rigs = below.rigs();
-        if self.0.len() != rigs {
+        if self.0.len() != below.rigs() {
             return Err(FillRefusal::BadShape);
         }
-        if !self.holds_each(rigs) {
+        if !self.holds_each() {
             return Err(FillRefusal::NotEachRigOnce);
         }
         Ok(())

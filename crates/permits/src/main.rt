@@ -37,9 +37,9 @@ impl Display for Listing {
 
 /// How many rigs a type may go to, as it is printed.
 #[derive(Drop)]
-struct Count(usize);
+struct RigCount(usize);
 
-impl Display for Count {
+impl Display for RigCount {
     fn fmt<W: fmt::Write>(&self, f: &mut fmt::Formatter<W>) -> fmt::Result {
         write!(f, "{} rigs", self.0)
     }
@@ -61,66 +61,63 @@ fn tell<T: Display + Drop, E: Into<u8>>(
 }
 
 // Asks a list sheet that was not filled, with one type, how many rigs a type may go to.
-fn ask(kind: usize) -> Result<Count, PermittedRefusal> {
+fn ask(kind: usize) -> Result<RigCount, PermittedRefusal> {
     let set = ListSheet::new().permitted(kind)?;
-    Ok(Count(set.len()))
+    Ok(RigCount(set.len()))
 }
 
 // Reads the pile of the hall, and then piles with one table spoiled.
 fn tell_piles(rt: &HostRuntime) -> io::Result<()> {
-    tell(
-        rt,
-        "the pile",
-        read_pile(&RIGS, &PUMPS, &APPROVALS, &ORDER).map(Listing),
-    )?;
-    tell(
-        rt,
-        "no rig",
-        read_pile(&[], &PUMPS, &APPROVALS, &ORDER).map(Listing),
-    )?;
-    tell(
-        rt,
-        "an approval too many",
-        read_pile(&RIGS, &PUMPS[0..3], &APPROVALS, &ORDER).map(Listing),
-    )?;
-    tell(
-        rt,
-        "rig 4 approved",
-        read_pile(&RIGS, &PUMPS, &[1, 2, 4, 16], &ORDER).map(Listing),
-    )?;
-    tell(
-        rt,
-        "three rigs in the order",
-        read_pile(&RIGS, &PUMPS, &APPROVALS, &ORDER[0..3]).map(Listing),
-    )?;
-    tell(
-        rt,
-        "rig 2 twice in the order",
-        read_pile(&RIGS, &PUMPS, &APPROVALS, &[2, 0, 3, 2]).map(Listing),
-    )?;
-    tell(
-        rt,
-        "rig 4 in the order",
-        read_pile(&RIGS, &PUMPS, &APPROVALS, &[2, 0, 3, 4]).map(Listing),
-    )
+    let piles = [
+        ("the pile", read_pile(&RIGS, &PUMPS, &APPROVALS, &ORDER)),
+        ("no rig", read_pile(&[], &PUMPS, &APPROVALS, &ORDER)),
+        (
+            "an approval too many",
+            read_pile(&RIGS, &PUMPS[..3], &APPROVALS, &ORDER),
+        ),
+        (
+            "rig 4 approved",
+            read_pile(&RIGS, &PUMPS, &[1, 2, 4, 16], &ORDER),
+        ),
+        (
+            "three rigs in the order",
+            read_pile(&RIGS, &PUMPS, &APPROVALS, &ORDER[..3]),
+        ),
+        (
+            "rig 2 twice in the order",
+            read_pile(&RIGS, &PUMPS, &APPROVALS, &[2, 0, 3, 2]),
+        ),
+        (
+            "rig 4 in the order",
+            read_pile(&RIGS, &PUMPS, &APPROVALS, &[2, 0, 3, 4]),
+        ),
+    ];
+    for (what, read) in piles {
+        tell(rt, what, read.map(Listing))?;
+    }
+    Ok(())
 }
 
 // Reads lists at the limits of rigs and types, and beyond.
 fn tell_lists(rt: &HostRuntime) -> io::Result<()> {
-    tell(
-        rt,
-        "a list",
-        read_list(64, &[0, 1 << 63, 0b101]).map(Listing),
-    )?;
-    tell(rt, "rig 63 of 63", read_list(63, &[1 << 63]).map(Listing))?;
-    tell(rt, "65 rigs", read_list(65, &[1 << 63]).map(Listing))?;
-    tell(rt, "no type", read_list(1, &[]).map(Listing))?;
-    tell(rt, "65 types", read_list(1, &[1; 65]).map(Listing))
+    let lists = [
+        ("a list", read_list(64, &[0, 1 << 63, 0b101])),
+        ("rig 63 of 63", read_list(63, &[1 << 63])),
+        ("65 rigs", read_list(65, &[1 << 63])),
+        ("no type", read_list(1, &[])),
+        ("65 types", read_list(1, &[1; 65])),
+    ];
+    for (what, read) in lists {
+        tell(rt, what, read.map(Listing))?;
+    }
+    Ok(())
 }
 
 fn main(rt: HostRuntime) -> io::Result<()> {
     tell_piles(&rt)?;
     tell_lists(&rt)?;
-    tell(&rt, "type 0 of 1", ask(0))?;
-    tell(&rt, "type 1 of 1", ask(1))
+    for (what, kind) in [("type 0 of 1", 0), ("type 1 of 1", 1)] {
+        tell(&rt, what, ask(kind))?;
+    }
+    Ok(())
 }

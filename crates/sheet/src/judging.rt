@@ -2,7 +2,6 @@
 ghost use Rattle.std.specs.Prelude.{◌≡◌, Decides};
 ghost use Rattle.rigset.specs.Sets.{has, AllBelow};
 ghost use Rattle.sheet.specs.Meaning.{Shaped, AllWithin};
-ghost use Rattle.sheet.specs.Numbers.{fill_number};
 
 use crate::interface::TYPES_MAX;
 use rigset::{RIGS_MAX, RigSet};
@@ -33,7 +32,7 @@ impl From<FillRefusal> for u8 {
 pub fn is_shaped(rigs: usize, types: usize) -> bool
     ensures { Decides result (Shaped rigs types) }
 {
-    1 <= rigs && rigs <= RIGS_MAX && 1 <= types && types <= TYPES_MAX
+    (1..=RIGS_MAX).contains(&rigs) && (1..=TYPES_MAX).contains(&types)
 }
 
 // Whether a number names only rigs below `rigs`.

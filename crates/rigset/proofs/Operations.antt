@@ -1,7 +1,8 @@
 -- What the operations on words make of sets.
 use Rattle.std.proofs.Common.{◌≡◌, ℕ, ◌-◌, ◌*◌, ◌/◌, ◌%◌, ◌^◌, ◌<◌, ◌≤◌, Bool, true, false, not, ◌&&◌, ◌||◌, eqb, ltb, Decides, sym, refl, ap, ◌∙◌, inl, inr, arith, eq-eqb, eqb-true}
-use lib.Bits.{bit_and, bit_or, and_mask, and_le_l}
+use lib.Bits.{bit_and, bit_or, and_le_l}
 use Rattle.std.proofs.lemmas.Nat.{one_shl, pow_below}
+use Rattle.std.proofs.lemmas.Nat.Bits.{shr_and_one}
 use Rattle.std.proofs.lemmas.Bool.{cases_eq, cases_lt}
 use Rattle.std.proofs.lemmas.Bool.Decides.{nat_tests, same_from_decides, not_from_Decides}
 use Rattle.levelling.specs.Sums.{Alike, Inside, inside}
@@ -53,7 +54,7 @@ below_all n h r = let e : ltb r 64 ≡ (ltb r n && ltb r 64) = grind (arith, nat
 -- the test of one digit
 pub digit_has : (m r : ℕ) → eqb (bit_and (m / 2 ^ r) 1) 1 ≡ has m r
 unfolding has
-digit_has m r = ap (λ (x : ℕ). eqb x 1) (and_mask (m / 2 ^ r) 1)
+digit_has m r = ap (λ (x : ℕ). eqb x 1) (shr_and_one m r)
 
 same_rig : (r n : ℕ) → n < 64 → eqb r n ≡ rig_numbered n r
 same_rig r n h = grind (arith, nat_tests)
@@ -81,7 +82,7 @@ pub remove_old : (m n : ℕ) → m < 2 ^ 64 → n < 64 → RigsAre (bit_and m (2
 remove_old m n small h r =
     ap (λ (x : ℕ). has (bit_and m (2 ^ 64 - 1 - x)) r) (one_shl n 64 h) ∙ has_and m (2 ^ 64 - 1 - 2 ^ n) r
     ∙ elim (cases_lt r 64) [
-      | inl l ↦ ap (λ (b : Bool). has m r && b) (has_not 64 (2 ^ n) r (pow_below n 64 h) l ∙ ap not (has_pow n r))
+      | inl l ↦ ap (λ (b : Bool). has m r && b) (has_not (2 ^ n) r (pow_below n 64 h) l ∙ ap not (has_pow n r))
       | inr p ↦
           let out = has_past 64 m r small p in
           ap (λ (b : Bool). b && has (2 ^ 64 - 1 - 2 ^ n) r) out ∙ sym (ap (λ (b : Bool). b && not (eqb r n)) out)

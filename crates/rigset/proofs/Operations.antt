@@ -1,5 +1,5 @@
 -- What the operations on words make of sets.
-use Rattle.std.proofs.Common.{◌≡◌, ℕ, ◌-◌, ◌*◌, ◌/◌, ◌%◌, ◌^◌, ◌<◌, ◌≤◌, Bool, true, false, not, ◌&&◌, ◌||◌, eqb, ltb, Decides, sym, refl, ap, ◌∙◌, inl, inr, arith, eq-eqb, eqb-true}
+use Rattle.std.proofs.Common.{◌≡◌, ℕ, ◌-◌, ◌*◌, ◌/◌, ◌%◌, ◌^◌, ◌<◌, ◌≤◌, Bool, true, false, eqb, Decides, sym, ap, ◌∙◌, inl, inr, arith, eq-eqb, eqb-true}
 use lib.Bits.{bit_and, bit_or, and_le_l}
 use Rattle.std.proofs.lemmas.Nat.{one_shl, pow_below}
 use Rattle.std.proofs.lemmas.Nat.Bits.{shr_and_one}
@@ -31,10 +31,7 @@ some_rig m empty d e =
 
 -- taking out a rig that is not there changes nothing
 pub remove_none : (m n : ℕ) → has m n ≡ false → RigsAre m (without (has m) n)
-remove_none m n h r = out (has m r) (λ e. ap (has m) e ∙ h)
-  where
-    out : (b : Bool) → (r ≡ n → b ≡ false) → b ≡ (b && not (eqb r n))
-    out b f = grind (arith, nat_tests)
+remove_none m n h r = grind (arith, nat_tests)
 
 -- the rigs below a number
 pub is_first : (n r : ℕ) → r < n → r < 64 → first_rigs n r ≡ true
@@ -44,65 +41,42 @@ pub first_is : (n r : ℕ) → first_rigs n r ≡ true → r < n
 first_is n r e = grind (arith, nat_tests)
 
 pub below_few : (n : ℕ) → n < 64 → RigsAre ((1 * 2 ^ n) % 2 ^ 64 - 1) (first_rigs n)
-below_few n h r =
-    let e : ltb r n ≡ (ltb r n && ltb r 64) = grind (arith, nat_tests) in
-    ap (λ (x : ℕ). has (x - 1) r) (one_shl n 64 h) ∙ has_ones n r ∙ e
+below_few n h r = ap (λ (x : ℕ). has (x - 1) r) (one_shl n 64 h) ∙ has_ones n r ∙ grind (arith, nat_tests)
 
 pub below_all : (n : ℕ) → 64 ≤ n → RigsAre (2 ^ 64 - 1) (first_rigs n)
-below_all n h r = let e : ltb r 64 ≡ (ltb r n && ltb r 64) = grind (arith, nat_tests) in has_ones 64 r ∙ e
+below_all n h r = has_ones 64 r ∙ grind (arith, nat_tests)
 
 -- the test of one digit
 pub digit_has : (m r : ℕ) → eqb (bit_and (m / 2 ^ r) 1) 1 ≡ has m r
 unfolding has
 digit_has m r = ap (λ (x : ℕ). eqb x 1) (shr_and_one m r)
 
-same_rig : (r n : ℕ) → n < 64 → eqb r n ≡ rig_numbered n r
-same_rig r n h = grind (arith, nat_tests)
-
 pub insert_new : (m n : ℕ) → n < 64 → RigsAre (bit_or m ((1 * 2 ^ n) % 2 ^ 64)) (either (has m) (rig_numbered n))
 insert_new m n h r =
-    ap (λ (x : ℕ). has (bit_or m x) r) (one_shl n 64 h) ∙ has_or m (2 ^ n) r
-    ∙ ap (λ (b : Bool). has m r || b) (has_pow n r ∙ same_rig r n h)
+    ap (λ (x : ℕ). has (bit_or m x) r) (one_shl n 64 h) ∙ has_or m (2 ^ n) r ∙ grind (arith, nat_tests, has_pow n r)
 
 -- a number of 64 or more names no rig
 pub insert_past : (m n : ℕ) → 64 ≤ n → RigsAre m (either (has m) (rig_numbered n))
-insert_past m n h r = out (has m r)
-  where
-    out : (b : Bool) → b ≡ (b || rig_numbered n r)
-    out b = grind (arith, nat_tests)
+insert_past m n h r = grind (arith, nat_tests)
 
 -- a rig that is there already
 pub insert_old : (m n : ℕ) → has m n ≡ true → RigsAre m (either (has m) (rig_numbered n))
-insert_old m n h r = out (has m r) (λ e. ap (has m) e ∙ h)
-  where
-    out : (b : Bool) → (r ≡ n → b ≡ true) → b ≡ (b || rig_numbered n r)
-    out b t = grind (arith, nat_tests)
+insert_old m n h r = grind (arith, nat_tests)
 
 pub remove_old : (m n : ℕ) → m < 2 ^ 64 → n < 64 → RigsAre (bit_and m (2 ^ 64 - 1 - (1 * 2 ^ n) % 2 ^ 64)) (without (has m) n)
 remove_old m n small h r =
     ap (λ (x : ℕ). has (bit_and m (2 ^ 64 - 1 - x)) r) (one_shl n 64 h) ∙ has_and m (2 ^ 64 - 1 - 2 ^ n) r
     ∙ elim (cases_lt r 64) [
-      | inl l ↦ ap (λ (b : Bool). has m r && b) (has_not (2 ^ n) r (pow_below n 64 h) l ∙ ap not (has_pow n r))
-      | inr p ↦
-          let out = has_past 64 m r small p in
-          ap (λ (b : Bool). b && has (2 ^ 64 - 1 - 2 ^ n) r) out ∙ sym (ap (λ (b : Bool). b && not (eqb r n)) out)
+      | inl l ↦ grind (arith, nat_tests, has_not (2 ^ n) r (pow_below n 64 h) l, has_pow n r)
+      | inr p ↦ grind (arith, nat_tests, has_past 64 m r small p)
     ]
 
 subset_all : (a b : ℕ) → a < 2 ^ 64 → Decides (eqb (bit_and a b) a) (Inside limit (has a) (has b))
 subset_all a b h = (
-  λ e r l t.
-      let p : has a r ≡ (has a r && has b r) = sym (ap (λ (x : ℕ). has x r) (eqb-true (bit_and a b) a e)) ∙ has_and a b r in
-      second (has a r) (has b r) t p,
+  λ e r l t. grind (arith, nat_tests, has_and a b r),
   λ s. eq-eqb (bit_and a b) a (has_all 64 (bit_and a b) a (omega (arith, and_le_l a b)) h (λ r l.
-      has_and a b r ∙ first (has a r) (has b r) (s r (omega (arith, limit_is))))),
+      grind (arith, nat_tests, has_and a b r, s r (omega (arith, limit_is))))),
 )
-  where
-    second : (p q : Bool) → p ≡ true → p ≡ (p && q) → q ≡ true
-    second p q h e = grind arith
-
-    first : (p q : Bool) → (p ≡ true → q ≡ true) → (p && q) ≡ p
-    first true q h = h refl
-    first false q h = refl
 
 pub subset_inside : (a b : ℕ) → a < 2 ^ 64 → eqb (bit_and a b) a ≡ inside limit (has a) (has b)
 subset_inside a b h = same_from_decides _ _ (subset_all a b h) (inside_decides limit (has a) (has b))

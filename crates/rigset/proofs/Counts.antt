@@ -1,5 +1,5 @@
 -- How many rigs a set has, and what they count.
-use Rattle.std.proofs.Common.{◌≡◌, ℕ, zero, suc, ◌+◌, ◌*◌, ◌%◌, ◌^◌, ◌<◌, Bool, true, cond, not, ◌&&◌, ◌||◌, eqb, sym, refl, ap, ◌∙◌, mod-lt, mod-eq_of_lt, one-add, arith, pow_pos}
+use Rattle.std.proofs.Common.{◌≡◌, ℕ, zero, suc, ◌+◌, ◌*◌, ◌%◌, ◌^◌, ◌<◌, true, cond, eqb, sym, refl, ap, ◌∙◌, mod-lt, mod-eq_of_lt, one-add, arith, pow_pos}
 use native.Mathlib.Nat.{mod-one}
 use Rattle.std.specs.Int.{bit_at}
 use Rattle.std.specs.Int.Count.{ones}
@@ -53,7 +53,4 @@ ones_size m h = ap ones (sym (mod-eq_of_lt h)) ∙ ones_mod 64 m
 pub size_without : (m n r : ℕ) → r < 64 → has m r ≡ true → RigsAre n (without (has m) r) → size limit (has n) + 1 ≡ size limit (has m)
 size_without m n r small h left =
     sym (size_with_one limit (has n) r (omega (arith, limit_is)) (left r ∙ grind (arith, nat_tests)))
-    ∙ over_same limit _ (has m) _ (λ i. 1) (λ i l. back (has m i) (has n i) i (λ e. ap (has m) e ∙ h) (left i)) (λ i l. refl)
-  where
-    back : (b c : Bool) (i : ℕ) → (i ≡ r → b ≡ true) → c ≡ (b && not (eqb i r)) → (c || eqb r i) ≡ b
-    back b c i t e = grind (arith, nat_tests)
+    ∙ over_same limit _ (has m) _ (λ i. 1) (λ i l. grind (arith, nat_tests, left i)) (λ i l. refl)

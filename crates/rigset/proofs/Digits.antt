@@ -1,8 +1,7 @@
 -- The rigs of a word, digit by digit.
-use Rattle.std.proofs.Common.{◌≡◌, ℕ, ◌-◌, ◌^◌, ◌<◌, ◌≤◌, true, false, not, ◌&&◌, ◌||◌, eqb, ltb, ap, inl, inr, arith}
-use Rattle.std.specs.Int.{bit_at, trailing_zeros, w64}
+use Rattle.std.proofs.Common.{◌≡◌, ℕ, ◌-◌, ◌^◌, ◌<◌, ◌≤◌, true, false, not, ◌&&◌, ◌||◌, eqb, ltb, ap, arith}
+use Rattle.std.specs.Int.{trailing_zeros, w64}
 use lib.Bits.{bit_and, bit_or}
-use Rattle.std.proofs.lemmas.Bool.{both_ways, cases_eq, cases_lt}
 use Rattle.std.proofs.lemmas.Bool.Decides.{nat_tests}
 use Rattle.std.proofs.lemmas.Nat.Bits.{bit_at-lt, bit_at-zero, bit_at_and, bit_at_or, bit_at_not, bit_at_ones, bit_at_ones_above, bit_at-pow_same, bit_at-pow_other, bit_at_above, bit_at-trailing_zeros, same_from_bits_below}
 use Rattle.rigset.specs.Sets.{has, LowestOf}
@@ -11,10 +10,7 @@ use Rattle.rigset.specs.Sets.{has, LowestOf}
 pub has_all : (k m n : ℕ) → m < 2 ^ k → n < 2 ^ k → ((r : ℕ) → r < k → has m r ≡ has n r) → m ≡ n
 unfolding has
 has_all k m n hm hn h =
-    same_from_bits_below k m n hm hn (λ r l. same (bit_at m r) (bit_at n r) (bit_at-lt m r) (bit_at-lt n r) (h r l))
-  where
-    same : (x y : ℕ) → x < 2 → y < 2 → eqb x 1 ≡ eqb y 1 → x ≡ y
-    same x y h k e = grind (arith, nat_tests)
+    same_from_bits_below k m n hm hn (λ r l. grind (arith, nat_tests, bit_at-lt m r, bit_at-lt n r, h r l))
 
 pub has_none : (r : ℕ) → has 0 r ≡ false
 unfolding has
@@ -27,8 +23,7 @@ has_past k m r h l = ap (λ (x : ℕ). eqb x 1) (bit_at_above m k r h l)
 
 -- the rigs of a word of k digits are below k
 pub has_within : (k m r : ℕ) → m < 2 ^ k → has m r ≡ true → r < k
-has_within k m r h t =
-    elim (cases_lt r k) [ inl l ↦ l | inr p ↦ absurd (both_ways (has m r) (has_past k m r h p) t) ]
+has_within k m r h t = grind (arith, has_past k m r h)
 
 -- ---- and, or, not, the powers of two
 
@@ -48,20 +43,12 @@ has_not m r h l = grind (arith, nat_tests, bit_at_not w64 m r h l, bit_at-lt m r
 -- the rigs below k
 pub has_ones : (k r : ℕ) → has (2 ^ k - 1) r ≡ ltb r k
 unfolding has
-has_ones k r =
-    elim (cases_lt r k) [
-      | inl l ↦ grind (arith, nat_tests, bit_at_ones k r l)
-      | inr p ↦ grind (arith, nat_tests, bit_at_ones_above k r p)
-    ]
+has_ones k r = grind (arith, nat_tests, bit_at_ones k r, bit_at_ones_above k r)
 
 -- the rig k alone
 pub has_pow : (k r : ℕ) → has (2 ^ k) r ≡ eqb r k
 unfolding has
-has_pow k r =
-    elim (cases_eq r k) [
-      | inl e ↦ grind (arith, nat_tests, bit_at-pow_same k)
-      | inr d ↦ grind (arith, nat_tests, bit_at-pow_other k r d)
-    ]
+has_pow k r = grind (arith, nat_tests, bit_at-pow_same k, bit_at-pow_other k r)
 
 -- ---- the lowest rig
 

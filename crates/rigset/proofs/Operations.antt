@@ -1,9 +1,9 @@
 -- What the operations on words make of sets.
-use Rattle.std.proofs.Common.{◌≡◌, ℕ, ◌-◌, ◌*◌, ◌/◌, ◌%◌, ◌^◌, ◌<◌, ◌≤◌, Bool, true, false, eqb, Decides, sym, ap, ◌∙◌, inl, inr, arith, eq-eqb, eqb-true}
+use Rattle.std.proofs.Common.{◌≡◌, ℕ, ◌-◌, ◌*◌, ◌/◌, ◌%◌, ◌^◌, ◌<◌, ◌≤◌, Bool, true, false, eqb, ◌≢◌, Decides, sym, ap, ◌∙◌, inl, inr, arith, eq-eqb, eqb-true}
 use lib.Bits.{bit_and, bit_or, and_le_l}
 use Rattle.std.proofs.lemmas.Nat.{one_shl, pow_below}
 use Rattle.std.proofs.lemmas.Nat.Bits.{shr_and_one}
-use Rattle.std.proofs.lemmas.Bool.{cases_eq, cases_lt}
+use Rattle.std.proofs.lemmas.Bool.{cases_lt}
 use Rattle.std.proofs.lemmas.Bool.Decides.{nat_tests, same_from_decides, not_from_Decides}
 use Rattle.levelling.specs.Sums.{Alike, Inside, inside}
 use Rattle.levelling.specs.Levels.{no_rig}
@@ -23,11 +23,7 @@ empty_decides m h = (
 )
 
 pub some_rig : (m : ℕ) (empty : Bool) → Decides empty (RigsAre m no_rig) → empty ≡ false → 0 < m
-some_rig m empty d e =
-    elim (cases_eq m 0) [
-      | inl z ↦ absurd (not_from_Decides empty d e (λ r. ap (λ (x : ℕ). has x r) z ∙ has_none r))
-      | inr n ↦ omega arith
-    ]
+some_rig m empty d e = let n : m ≢ 0 = λ z. not_from_Decides empty d e (λ r. rw z (has_none r)) in omega arith
 
 -- taking out a rig that is not there changes nothing
 pub remove_none : (m n : ℕ) → has m n ≡ false → RigsAre m (without (has m) n)

@@ -1,4 +1,4 @@
-use Rattle.std.proofs.Common.{◌≡◌, length, sym, ◌∙◌, arith}
+use Rattle.std.proofs.Common.{sym, ◌∙◌, arith}
 use Rattle.rigset.proofs.Gathering.{gathered_none, gathered_one, gathered_not, gathered_all}
 use Rattle.rating.proofs.rated.suited.Goals as goal
 use Rattle.rating.proofs.rated.suited.Goals.{then-suits, else-suits}

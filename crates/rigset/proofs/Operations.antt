@@ -1,9 +1,8 @@
 -- What the operations on words make of sets.
-use Rattle.std.proofs.Common.{◌≡◌, ℕ, ◌-◌, ◌*◌, ◌/◌, ◌%◌, ◌^◌, ◌<◌, ◌≤◌, Bool, true, false, eqb, ◌≢◌, Decides, sym, ap, ◌∙◌, inl, inr, arith, eq-eqb, eqb-true}
+use Rattle.std.proofs.Common.{◌≡◌, ℕ, ◌-◌, ◌*◌, ◌/◌, ◌%◌, ◌^◌, ◌<◌, ◌≤◌, Bool, true, false, eqb, ◌≢◌, Decides, sym, ap, ◌∙◌, arith, eq-eqb, eqb-true}
 use lib.Bits.{bit_and, bit_or, and_le_l}
 use Rattle.std.proofs.lemmas.Nat.{one_shl, pow_below}
 use Rattle.std.proofs.lemmas.Nat.Bits.{shr_and_one}
-use Rattle.std.proofs.lemmas.Bool.{cases_lt}
 use Rattle.std.proofs.lemmas.Bool.Decides.{nat_tests, same_from_decides, not_from_Decides}
 use Rattle.levelling.specs.Sums.{Alike, Inside, inside}
 use Rattle.levelling.specs.Levels.{no_rig}
@@ -62,10 +61,7 @@ insert_old m n h r = grind (arith, nat_tests)
 pub remove_old : (m n : ℕ) → m < 2 ^ 64 → n < 64 → RigsAre (bit_and m (2 ^ 64 - 1 - (1 * 2 ^ n) % 2 ^ 64)) (without (has m) n)
 remove_old m n small h r =
     ap (λ (x : ℕ). has (bit_and m (2 ^ 64 - 1 - x)) r) (one_shl n 64 h) ∙ has_and m (2 ^ 64 - 1 - 2 ^ n) r
-    ∙ elim (cases_lt r 64) [
-      | inl l ↦ grind (arith, nat_tests, has_not (2 ^ n) r (pow_below n 64 h) l, has_pow n r)
-      | inr p ↦ grind (arith, nat_tests, has_past 64 m r small p)
-    ]
+    ∙ grind (arith, nat_tests, has_not (2 ^ n) r (pow_below n 64 h), has_pow n r, has_past 64 m r small)
 
 subset_all : (a b : ℕ) → a < 2 ^ 64 → Decides (eqb (bit_and a b) a) (Inside limit (has a) (has b))
 subset_all a b h = (

@@ -5,7 +5,7 @@ use rating::{PumpRating, RatingSheet, RigRating};
 use sheet::{FillRefusal, ListSheet, Reading, read_sheet};
 
 /// Reads a list of sets, as a sheet that is lent.
-pub fn read_list<'a>(rigs: usize, sets: &'a [u64]) -> Result<Reading, FillRefusal>
+pub fn read_list(rigs: usize, sets: &[u64]) -> Result<Reading, FillRefusal>
     ensures { ListRead rigs sets.now result }
 {
     let mut list = ListSheet::new();
@@ -15,11 +15,11 @@ pub fn read_list<'a>(rigs: usize, sets: &'a [u64]) -> Result<Reading, FillRefusa
 }
 
 /// Reads a pile of three: ratings, approvals on them, and other rig numbers on that.
-pub fn read_pile<'a>(
-    rigs: &'a [RigRating],
-    pumps: &'a [PumpRating],
-    approvals: &'a [u64],
-    order: &'a [u8],
+pub fn read_pile(
+    rigs: &[RigRating],
+    pumps: &[PumpRating],
+    approvals: &[u64],
+    order: &[u8],
 ) -> Result<Reading, FillRefusal>
     ensures { PileRead rigs.now pumps.now approvals.now order.now result }
 {

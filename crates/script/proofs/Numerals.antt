@@ -1,7 +1,8 @@
 -- Numerals without needless zeros, and masks of ones and zeros. Assumes nothing.
-use Rattle.std.proofs.Common.{◌≡◌, ℕ, ◌+◌, ◌-◌, ◌*◌, ◌/◌, ◌%◌, ◌^◌, ◌<◌, ◌≤◌, Bool, true, false, cond, eqb, Ok, Result, List, [], ◌∷◌, length, get_or, drop, reverse, decimal, sym, ap, ◌∙◌, subst, ⊎_elim, pow-suc, add-one, arith, refl, MatchOption}
+use Rattle.std.proofs.Common.{◌≡◌, ℕ, ◌+◌, ◌-◌, ◌*◌, ◌/◌, ◌%◌, ◌^◌, ◌<◌, ◌≤◌, Bool, true, false, cond, eqb, Ok, Err, Result, Option, List, [], ◌∷◌, length, get_or, drop, reverse, decimal, sym, ap, ◌∙◌, subst, ⊎_elim, pow-suc, add-one, arith, refl, MatchOption}
 use Rattle.std.specs.List.{AllByRecursion}
 use Rattle.std.specs.Bool.{then_some}
+use Rattle.std.specs.Result.{result_ok}
 use Rattle.std.specs.Str.{IsUtf8}
 use Rattle.std.specs.Str.Parse.{AllDigits, ParsesUnsigned, digits_value}
 use Rattle.std.proofs.lemmas.Str.{IsUtf8-from_ascii}
@@ -45,10 +46,15 @@ number_text f g = let q = numeric f g in IsUtf8-from_ascii f (IsAscii-from_digit
 pub number_parsed : {E : Type 0} (f : List ℕ) (r : Result ℕ E) → ParsesUnsigned 16 10 f r → (g : Good number f) → r ≡ Ok g.0
 number_parsed f r h g = parse-decimal 16 g.0 f r (omega (arith, g.1)) (omega (arith, g.1)) g.2 h
 
-pub number_is : {E : Type 0} (f : List ℕ) (n : ℕ) (r : Result ℕ E) → r ≡ Ok n → ParsesUnsigned 16 10 f r → (get_or f 0 0 ≡ 43 → ⊥) → (get_or f 0 0 ≡ 48 → length f ≡ 1) → (n ≤ 65535) × (f ≡ decimal n)
+pub number_is : {E : Type 0} (f : List ℕ) (n : ℕ) (r : Result ℕ E) → r ≡ Ok n → ParsesUnsigned 16 10 f r → (get_or f 0 0 ≡ 43 → ⊥) → (get_or f 0 0 ≡ 48 → length f ≤ 1) → (n ≤ 65535) × (f ≡ decimal n)
 number_is f n r e h sign canon =
     let p = rw e at (parse_plain own 16 f r h sign) in
-    (omega (arith, p), sym (decimal-digits_value own f p.0.0 p.0.1 canon (omega (arith, p))) ∙ ap decimal (sym p.1))
+    (omega (arith, p), sym (decimal-digits_value own f p.0.0 p.0.1 (λ z. omega (arith, canon z)) (omega (arith, p))) ∙ ap decimal (sym p.1))
+
+-- what is parsed, if it is, is the number; and what is not is none
+pub number_or : (E : Type 0) (f : List ℕ) (r : Result ℕ E) (o : Option ℕ) → o ≡ result_ok r → ParsesUnsigned 16 10 f r → (get_or f 0 0 ≡ 43 → ⊥) → (get_or f 0 0 ≡ 48 → length f ≤ 1) → MatchOption o (Good number f → ⊥) (λ n. Fit number n × (f ≡ shown number n))
+number_or E f (Ok n) o e h sign canon = let k : (n ≤ 65535) × (f ≡ decimal n) = number_is {E = E} f n (Ok n) refl h sign canon in rw e k
+number_or E f (Err x) o e h sign canon = rw e (λ g. let k : ◌≡◌ {A = Result ℕ E} (Err x) (Ok g.0) = number_parsed {E = E} f (Err x) h g in cc)
 
 -- masks
 

@@ -27,28 +27,25 @@ pub(crate) trait FieldValue: Sized {
     ghost good: { (f : List ℕ) (v : Self) → reads f v → Good form f };
 }
 
-/// A number from 0 to 65,535.
-#[derive(Clone, Copy)]
-pub(crate) struct Number(pub(crate) u16);
-
 /// A number from 1 to 4,096.
 #[derive(Clone, Copy)]
 pub(crate) struct Count(pub(crate) u16);
 
-impl FieldValue for Number {
+// A number from 0 to 65,535.
+impl FieldValue for u16 {
     ghost form = { number };
 
-    ghost reads = { λ f n. Fit number n.0 × (f ≡ shown number n.0) };
+    ghost reads = { λ f n. Fit number n × (f ≡ shown number n) };
 
     ghost good = { Prim.search rules };
 
-    fn parse(field: &[u8]) -> Option<Number> {
+    fn parse(field: &[u8]) -> Option<u16> {
         // `str::parse` takes a plus sign and needless zeros too.
         if matches!(field, [b'+', ..] | [b'0', _, ..]) {
             return None;
         }
         let text = str::from_utf8(field).ok()?;
-        Some(Number(text.parse().ok()?))
+        text.parse().ok()
     }
 }
 
@@ -60,7 +57,7 @@ impl FieldValue for Count {
     ghost good = { Prim.search rules };
 
     fn parse(field: &[u8]) -> Option<Count> {
-        let Number(n) = Number::parse(field)?;
+        let n = u16::parse(field)?;
         (1..=COUNT_MAX).contains(&n).then_some(Count(n))
     }
 }
@@ -117,10 +114,7 @@ fn next_field(rest: &[u8]) -> (&[u8], &[u8])
     ensures ends { Ends result.1.now }
     ensures whole { Commaless result.0.now }
 {
-    let [_, tail @ ..] = rest else {
-        return (rest, rest);
-    };
-    cut_field(tail)
+    cut_field(&rest[1..])
 }
 
 // The fields that follow the word, taken one after another.

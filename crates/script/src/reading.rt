@@ -6,7 +6,7 @@ ghost use Rattle.script.specs.Verdicts.{TheLineHasNoOtherVerdict, AnAcceptedLine
 
 use crate::command::{Command, Word};
 use crate::faults::LineFault;
-use crate::fields::{Count, Fields, Number, count_commas, cut_field};
+use crate::fields::{Count, Fields, count_commas, cut_field};
 use crate::form::front_of;
 
 // The command word, and what follows it: nothing, or a comma and the fields.
@@ -18,47 +18,41 @@ fn read_word(front: &[u8]) -> Option<(Word, &[u8])>
 }
 
 // The command with this word and the fields that follow, which are as many as the word takes.
-fn read_fields<'a>(word: Word, rest: &'a [u8]) -> Result<Command<'a>, LineFault>
+fn read_fields(word: Word, rest: &[u8]) -> Result<Command<'_>, LineFault>
     requires { length (after rest.now) ≡ length (shape word) }
     ensures { MatchResult result (λ c. Says word (after rest.now) (meaning c) × Tidy c) (λ e. Misfit (shape word) (after rest.now) e) }
 {
     let mut fields = Fields::new(rest);
     match word {
-        Word::Hall => {
-            let Number(rigs) = fields.next_value()?;
-            let Number(types) = fields.next_value()?;
-            Ok(Command::Hall { rigs, types })
-        }
+        Word::Hall => Ok(Command::Hall {
+            rigs: fields.next_value()?,
+            types: fields.next_value()?,
+        }),
         Word::PumpType => Ok(Command::PumpType(fields.next_value()?)),
-        Word::Add => {
-            let Number(kind) = fields.next_value()?;
-            let Count(count) = fields.next_value()?;
-            Ok(Command::Add { kind, count })
-        }
-        Word::Withdraw => {
-            let Number(kind) = fields.next_value()?;
-            let Count(count) = fields.next_value()?;
-            Ok(Command::Withdraw { kind, count })
-        }
-        Word::Take => {
-            let Number(rig) = fields.next_value()?;
-            Ok(Command::Take { rig })
-        }
-        Word::Shut => {
-            let Number(rig) = fields.next_value()?;
-            Ok(Command::Shut { rig })
-        }
-        Word::Open => {
-            let Number(rig) = fields.next_value()?;
-            Ok(Command::Open { rig })
-        }
+        Word::Add => Ok(Command::Add {
+            kind: fields.next_value()?,
+            count: fields.next_value::<Count>()?.0,
+        }),
+        Word::Withdraw => Ok(Command::Withdraw {
+            kind: fields.next_value()?,
+            count: fields.next_value::<Count>()?.0,
+        }),
+        Word::Take => Ok(Command::Take {
+            rig: fields.next_value()?,
+        }),
+        Word::Shut => Ok(Command::Shut {
+            rig: fields.next_value()?,
+        }),
+        Word::Open => Ok(Command::Open {
+            rig: fields.next_value()?,
+        }),
         Word::Report => Ok(Command::Report),
         Word::Note => Ok(Command::Note(fields.next_bytes())),
     }
 }
 
 // The format's verdict on a line.
-fn judge<'a>(line: &'a [u8]) -> Result<Command<'a>, LineFault>
+fn judge(line: &[u8]) -> Result<Command<'_>, LineFault>
     ensures judged { Judged line.now (verdict result) }
     ensures tidy { IfOk result Tidy }
 {
@@ -71,7 +65,7 @@ fn judge<'a>(line: &'a [u8]) -> Result<Command<'a>, LineFault>
 }
 
 /// Reads one line, its end byte included: the command that it says, or the fault that it has.
-pub fn read<'a>(line: &'a [u8]) -> Result<Command<'a>, LineFault>
+pub fn read(line: &[u8]) -> Result<Command<'_>, LineFault>
     ensures judged { Judged line.now (verdict result) }
     ensures exact { TheLineHasNoOtherVerdict line.now (verdict result) }
     ensures only { AnAcceptedLineIsTheOnlyLineOfItsCommand line.now (verdict result) }

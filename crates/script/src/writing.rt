@@ -46,7 +46,7 @@ pub fn write(command: Command<'_>, out: &mut [u8]) -> Result<usize, WriteRefusal
     if let Err(fault) = read(line) {
         return Err(match fault {
             LineFault::Malformed => WriteRefusal::Malformed,
-            LineFault::UnknownWord => unreachable(),
+            LineFault::UnknownWord => unreachable!(),
             LineFault::FieldCount => WriteRefusal::FieldCount,
             LineFault::BadField { .. } => WriteRefusal::BadField,
         });

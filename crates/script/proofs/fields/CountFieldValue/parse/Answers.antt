@@ -5,7 +5,7 @@ use Rattle.script.proofs.fields.CountFieldValue.parse.Goals as goal
 
 pub returns : goal.returns
 returns c =
-    let n = c.in_ok-n.field-0.0 in
+    let n = c.in_ok-n.n in
     let p = c.in_ok-n.ensures in
     let yes : c.contains.result ≡ true → (1 ≤ n) × (n ≤ 4096) = λ t. grind (arith, nat_tests) in
     let no : c.contains.result ≡ false → (1 ≤ n) × (n ≤ 4096) → ⊥ = λ t h. grind (arith, nat_tests) in

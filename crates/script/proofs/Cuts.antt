@@ -1,13 +1,13 @@
 -- Bytes cut at their commas, and joined again. Assumes nothing.
 use Rattle.std.proofs.Common.{◌≡◌, ℕ, ◌+◌, ◌-◌, ◌<◌, true, false, cond, eqb, List, [], ◌∷◌, ◌++◌, length, take, drop, count_by, sym, refl, ap, ◌∙◌, ⊎_elim, arith}
-use Rattle.std.specs.List.{AllByRecursion}
+use Rattle.std.specs.List.{AllByRecursion, onto_first}
 use Rattle.std.proofs.lemmas.List.{take_all, take-append-drop, append_assoc}
+use Rattle.std.proofs.lemmas.List.Splits.{length-slice_split}
 use Rattle.std.proofs.lemmas.List.Sums.{sum_by-cons}
 use Rattle.std.proofs.lemmas.Bool.{ne_eqb}
 use Rattle.std.proofs.lemmas.Bool.Decides.{eqb_tells}
 use Rattle.script.specs.Format.{commas, Commaless, NotComma}
 use Rattle.script.specs.Parts.{parts, after, Ends}
-use Rattle.script.specs.Texts.{onto}
 
 abbrev whole : List (List ℕ) → List ℕ
 whole [] = []
@@ -23,24 +23,11 @@ first_part bs f r k p q h e =
     let whole : f ++ r ≡ bs = ap (λ (x : List ℕ). x ++ r) p ∙ ap (λ (x : List ℕ). take k bs ++ x) q ∙ take-append-drop k bs in
     ap parts (sym whole) ∙ cut_at f r h e
 
--- as many parts as commas, and one more
-
-length_onto : (b n : ℕ) (fs : List (List ℕ)) → length fs ≡ n + 1 → length (onto b fs) ≡ n + 1
-length_onto b n [] h = absurd (omega arith)
-length_onto b n (f ∷ fs) h = h
-
-length_step : (b n : ℕ) (fs : List (List ℕ)) → length fs ≡ n + 1 → length (cond (eqb b 44) ([] ∷ fs) (onto b fs)) ≡ cond (eqb b 44) 1 0 + n + 1
-length_step b n fs h =
-    elim (eqb b 44) as (λ t. length (cond t ([] ∷ fs) (onto b fs)) ≡ cond t 1 0 + n + 1)
-    [ true ↦ omega arith | false ↦ length_onto b n fs h ∙ omega arith ]
-
-pub length_parts : (bs : List ℕ) → length (parts bs) ≡ count_by (λ b. eqb b 44) bs + 1
-length_parts [] = refl
-length_parts (b ∷ bs) = rw (sum_by-cons (λ x. cond (eqb x 44) 1 0) b bs) (length_step b _ (parts bs) (length_parts bs))
+-- as many fields as commas
 
 pub length_after : (rest : List ℕ) → Ends rest → length (after rest) ≡ count_by (λ b. eqb b 44) rest
 length_after [] e = refl
-length_after (b ∷ bs) e = length_parts bs ∙ sym (sum_by-cons (λ x. cond (eqb x 44) 1 0) b bs ∙ rw e (omega arith))
+length_after (b ∷ bs) e = length-slice_split (λ x. eqb x 44) bs ∙ sym (sum_by-cons (λ x. cond (eqb x 44) 1 0) b bs ∙ rw e (omega arith))
 
 -- the parts joined again are the bytes, and no part has a comma
 
@@ -48,11 +35,11 @@ commas_whole : (fs : List (List ℕ)) → 0 < length fs → commas fs ≡ 44 ∷
 commas_whole [] h = absurd (omega arith)
 commas_whole (f ∷ fs) h = refl
 
-whole_onto : (b : ℕ) (fs : List (List ℕ)) → whole (onto b fs) ≡ b ∷ whole fs
+whole_onto : (b : ℕ) (fs : List (List ℕ)) → whole (onto_first b fs) ≡ b ∷ whole fs
 whole_onto b [] = refl
 whole_onto b (f ∷ fs) = refl
 
-whole_step : (b : ℕ) (fs : List (List ℕ)) → 0 < length fs → whole (cond (eqb b 44) ([] ∷ fs) (onto b fs)) ≡ b ∷ whole fs
+whole_step : (b : ℕ) (fs : List (List ℕ)) → 0 < length fs → whole (cond (eqb b 44) ([] ∷ fs) (onto_first b fs)) ≡ b ∷ whole fs
 whole_step b fs h =
     ⊎_elim
     (λ p. rw (p.0, p.1) (commas_whole fs h))
@@ -61,16 +48,16 @@ whole_step b fs h =
 
 whole_parts : (bs : List ℕ) → whole (parts bs) ≡ bs
 whole_parts [] = refl
-whole_parts (b ∷ bs) = whole_step b (parts bs) (omega (arith, length_parts bs)) ∙ ap (λ (x : List ℕ). b ∷ x) (whole_parts bs)
+whole_parts (b ∷ bs) = whole_step b (parts bs) (omega (arith, length-slice_split (λ x. eqb x 44) bs)) ∙ ap (λ (x : List ℕ). b ∷ x) (whole_parts bs)
 
 pub rejoined : (bs f : List ℕ) (fs : List (List ℕ)) → parts bs ≡ f ∷ fs → bs ≡ f ++ commas fs
 rejoined bs f fs e = sym (whole_parts bs) ∙ ap whole e
 
-apart_onto : (b : ℕ) (fs : List (List ℕ)) → NotComma b → AllByRecursion Commaless fs → AllByRecursion Commaless (onto b fs)
+apart_onto : (b : ℕ) (fs : List (List ℕ)) → NotComma b → AllByRecursion Commaless fs → AllByRecursion Commaless (onto_first b fs)
 apart_onto b [] h k = ((h, tt), tt)
 apart_onto b (f ∷ fs) h k = ((h, k.0), k.1)
 
-apart_step : (b : ℕ) (fs : List (List ℕ)) → AllByRecursion Commaless fs → AllByRecursion Commaless (cond (eqb b 44) ([] ∷ fs) (onto b fs))
+apart_step : (b : ℕ) (fs : List (List ℕ)) → AllByRecursion Commaless fs → AllByRecursion Commaless (cond (eqb b 44) ([] ∷ fs) (onto_first b fs))
 apart_step b fs k =
     ⊎_elim
     (λ p. rw p.0 (tt, k))

@@ -1,6 +1,7 @@
 -- From the parts of a line to its verdict. Assumes nothing.
-use Rattle.std.proofs.Common.{◌≡◌, ℕ, ◌<◌, List, [], ◌∷◌, ◌++◌, length, IfOk, Ok, Err, Result, sym, refl, ap, ◌∙◌, subst, arith, MatchResult}
+use Rattle.std.proofs.Common.{◌≡◌, ℕ, eqb, ◌<◌, List, [], ◌∷◌, ◌++◌, length, IfOk, Ok, Err, Result, sym, refl, ap, ◌∙◌, subst, arith, MatchResult}
 use Rattle.std.specs.List.{AllByRecursion}
+use Rattle.std.proofs.lemmas.List.Splits.{length-slice_split}
 use Rattle.script.specs.Verdicts.{Judged, verdict, Tidy}
 use Rattle.script.specs.declared.command.Command.{Command}
 use Rattle.script.specs.Format.{Meaning, meaning, name, shape, front, commas, Commaless, WellFormed, Accepted, Parted, Faulty}
@@ -8,7 +9,7 @@ use Rattle.script.specs.Parts.{parts, Says, Misfit}
 use Rattle.script.specs.declared.command.Word.{Word}
 use Rattle.script.specs.declared.faults.LineFault.{LineFault}
 use Rattle.script.specs.declared.faults.LineFault.TheVariants.{UnknownWord, FieldCount}
-use Rattle.script.proofs.Cuts.{rejoined, length_parts, parts_apart}
+use Rattle.script.proofs.Cuts.{rejoined, parts_apart}
 
 module _ (l b : List ℕ) (form : WellFormed l b) where
   -- a well-formed line is parted as its bytes are
@@ -20,7 +21,7 @@ module _ (l b : List ℕ) (form : WellFormed l b) where
   unknown_at (g ∷ gs) e h n = (g, gs, parted g gs e, λ w q. n w gs (e ∙ ap (λ (x : List ℕ). x ∷ gs) q))
 
   pub unknown : ((w : Word) (fs : List (List ℕ)) → parts b ≡ name w ∷ fs → ⊥) → Faulty l UnknownWord
-  unknown n = unknown_at (parts b) refl (omega (arith, length_parts b)) n
+  unknown n = unknown_at (parts b) refl (omega (arith, length-slice_split (λ x. eqb x 44) b)) n
 
   pub miscounted : (w : Word) (fs : List (List ℕ)) → parts b ≡ name w ∷ fs → (length fs ≡ length (shape w) → ⊥) → Faulty l FieldCount
   miscounted w fs e n = (w, fs, parted (name w) fs e, n)

@@ -201,15 +201,8 @@ held_whole (text ∷ ss) vs n h = absurd n
 
 -- the fields that follow a word: a note's text is all there is, with its commas
 abbrev follow : Word → List ℕ → List (List ℕ)
-follow Hall rest = after rest
-follow PumpType rest = after rest
-follow Add rest = after rest
-follow Withdraw rest = after rest
-follow Take rest = after rest
-follow Shut rest = after rest
-follow Open rest = after rest
-follow Report rest = after rest
 follow Note rest = drop 1 rest ∷ []
+follow w rest = after rest
 
 abbrev all_texts : (w : Word) → Values (shape w) → List (List ℕ)
 all_texts w vs = shown_all (shape w) vs

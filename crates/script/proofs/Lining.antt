@@ -1,9 +1,9 @@
 -- A text cut into its lines, and its faulty ones told. Assumes nothing.
 use Rattle.std.proofs.Common.{◌≡◌, ℕ, ◌+◌, ◌<◌, ◌≤◌, min, true, false, cond, eqb, List, [], ◌∷◌, ◌++◌, length, get_or, take, drop, sym, refl, ap, ◌∙◌, subst, inl, inr, arith}
-use Rattle.std.specs.List.{AllByRecursion, IsFirstMatchOrLen}
+use Rattle.std.specs.List.{onto_first, AllByRecursion, IsFirstMatchOrLen}
 use Rattle.std.proofs.lemmas.Bool.{ne_eqb, eqb-true, cases_lt}
 use Rattle.std.proofs.lemmas.List.{take-append-drop, take_more, drop_more, take_all, drop_all, length-take}
-use Rattle.script.specs.Texts.{lines, onto, StartsWith, FaultyOnes, none, passed, told}
+use Rattle.script.specs.Texts.{lines, StartsWith, FaultyOnes, none, passed, told}
 use Rattle.script.specs.Verdicts.{Judged, faulty}
 use Rattle.script.specs.declared.faults.FaultyLine.{FaultyLine}
 use Rattle.script.specs.declared.faults.LineFault.{LineFault}
@@ -20,7 +20,7 @@ line_at (a ∷ f) rest h = rw (ne_eqb a 10 h.0, line_at f rest h.1)
 
 line_last : (a : ℕ) (f : List ℕ) → AllByRecursion Inner (a ∷ f) → lines (a ∷ f) ≡ (a ∷ f) ∷ []
 line_last a [] h = rw (ne_eqb a 10 h.0)
-line_last a (b ∷ f) h = rw (ne_eqb a 10 h.0) (ap (onto a) (line_last b f h.1))
+line_last a (b ∷ f) h = rw (ne_eqb a 10 h.0) (ap (onto_first a) (line_last b f h.1))
 
 only_line : (xs : List ℕ) → 0 < length xs → AllByRecursion Inner xs → lines xs ≡ xs ∷ []
 only_line [] l h = absurd (omega arith)
@@ -62,13 +62,13 @@ starts_first xs i n some e h =
 
 -- a text has no more lines than bytes
 
-fit_onto : (b n : ℕ) (ls : List (List ℕ)) → length ls ≤ n → length (onto b ls) ≤ n + 1
+fit_onto : (b n : ℕ) (ls : List (List ℕ)) → length ls ≤ n → length (onto_first b ls) ≤ n + 1
 fit_onto b n [] h = omega arith
 fit_onto b n (l ∷ ls) h = omega arith
 
-fit_step : (b n : ℕ) (ls : List (List ℕ)) → length ls ≤ n → length (cond (eqb b 10) ((b ∷ []) ∷ ls) (onto b ls)) ≤ n + 1
+fit_step : (b n : ℕ) (ls : List (List ℕ)) → length ls ≤ n → length (cond (eqb b 10) ((b ∷ []) ∷ ls) (onto_first b ls)) ≤ n + 1
 fit_step b n ls h =
-    elim (eqb b 10) as (λ t. length (cond t ((b ∷ []) ∷ ls) (onto b ls)) ≤ n + 1) [ true ↦ omega arith | false ↦ fit_onto b n ls h ]
+    elim (eqb b 10) as (λ t. length (cond t ((b ∷ []) ∷ ls) (onto_first b ls)) ≤ n + 1) [ true ↦ omega arith | false ↦ fit_onto b n ls h ]
 
 pub lines_fit : (xs : List ℕ) → length (lines xs) ≤ length xs
 lines_fit [] = omega arith

@@ -2,6 +2,7 @@
 use Rattle.std.proofs.Common.{◌≡◌, ℕ, cond, eqb, List, [], ◌∷◌, ◌++◌, get_or, sym, refl, ap, ◌∙◌, subst, arith, rules}
 use Rattle.std.specs.List.{All}
 use Rattle.std.proofs.lemmas.List.{append_cancel_left}
+use Rattle.std.proofs.lemmas.List.Elements.{All-from_recursion}
 use Rattle.script.specs.Format.{name, Commaless}
 use Rattle.script.specs.declared.command.Word.{Word}
 use Rattle.script.specs.declared.command.Word.TheVariants.{Hall, PumpType, Add, Withdraw, Take, Shut, Open, Report, Note}
@@ -29,15 +30,9 @@ guess bs =
     (cond (eqb (get_or bs 0 0) 78) Note (cond (eqb (get_or bs 1 0) 89) PumpType Take)))))))
 
 guess_name : (w : Word) (rest : List ℕ) → guess (name w ++ rest) ≡ w
-guess_name Hall rest = refl
-guess_name PumpType rest = refl
-guess_name Add rest = refl
-guess_name Withdraw rest = refl
-guess_name Take rest = refl
-guess_name Shut rest = refl
-guess_name Open rest = refl
-guess_name Report rest = refl
-guess_name Note rest = refl
+guess_name w rest =
+    elim w as (λ v. guess (name v ++ rest) ≡ v)
+    [ Hall ↦ refl | PumpType ↦ refl | Add ↦ refl | Withdraw ↦ refl | Take ↦ refl | Shut ↦ refl | Open ↦ refl | Report ↦ refl | Note ↦ refl ]
 
 pub same_word : (v w : Word) (r s : List ℕ) → name v ++ r ≡ name w ++ s → v ≡ w
 same_word v w r s e = sym (guess_name v r) ∙ ap guess e ∙ guess_name w s
@@ -49,12 +44,4 @@ pub same_name : (v w : Word) → name v ≡ name w → v ≡ w
 same_name v w e = same_word v w [] [] (ap (λ (x : List ℕ). x ++ []) e)
 
 pub name_whole : (w : Word) → Commaless (name w)
-name_whole Hall = search rules
-name_whole PumpType = search rules
-name_whole Add = search rules
-name_whole Withdraw = search rules
-name_whole Take = search rules
-name_whole Shut = search rules
-name_whole Open = search rules
-name_whole Report = search rules
-name_whole Note = search rules
+name_whole w = every_word (λ v. Commaless (name v)) (All-from_recursion (λ v. Commaless (name v)) words (search rules)) w

@@ -1,16 +1,15 @@
 -- A line's bytes as reading goes through them: what follows the word, and what follows each field.
 -- Only contracts of inner functions speak of these.
-use Rattle.std.specs.Prelude.{◌≡◌, ℕ, cond, List, [], ◌∷◌, ◌==◌}
+use Rattle.std.specs.Prelude.{◌≡◌, ℕ, List, [], ◌∷◌, ◌==◌}
+use Rattle.std.specs.List.{slice_split}
 use Rattle.script.specs.Format.{Form, Meaning, AllFit, shape, fields, Good, FirstBad}
-use Rattle.script.specs.Texts.{onto}
 use Rattle.script.specs.declared.command.Word.{Word}
 use Rattle.script.specs.declared.faults.LineFault.TheVariants.{BadField}
 use Rattle.script.specs.declared.faults.LineFault.{LineFault}
 
 -- Bytes cut at their commas.
 abbrev pub parts : List ℕ → List (List ℕ)
-parts [] = [] ∷ []
-parts (b ∷ bs) = cond (b == 44) ([] ∷ parts bs) (onto b (parts bs))
+parts bs = slice_split (λ b. b == 44) bs
 
 -- What follows a whole word or field: nothing, or a comma and more.
 abbrev pub Ends : List ℕ → Type 0

@@ -1,5 +1,6 @@
 -- The lines of a text, and the list of the faulty ones.
 use Rattle.std.specs.Prelude.{◌≡◌, ℕ, ◌+◌, ◌<◌, ◌≤◌, cond, List, [], ◌∷◌, ◌++◌, length, ◌==◌}
+use Rattle.std.specs.List.{onto_first}
 use Rattle.bounded.specs.Entries.{Refilled, Stays}
 use Rattle.bounded.specs.declared.Bounded.{Bounded}
 use Rattle.script.specs.Format.{Meaning}
@@ -15,15 +16,10 @@ Within bytes = length bytes ≤ 65536
 abbrev pub Beyond : List ℕ → Type 0
 Beyond bytes = 65536 < length bytes
 
--- A byte put in front of the first line.
-abbrev pub onto : ℕ → List (List ℕ) → List (List ℕ)
-onto b [] = (b ∷ []) ∷ []
-onto b (l ∷ ls) = (b ∷ l) ∷ ls
-
 -- The lines of a text: cut after each byte 10; bytes after the last one, if any, are a line too.
 abbrev pub lines : List ℕ → List (List ℕ)
 lines [] = []
-lines (b ∷ bs) = cond (b == 10) ((b ∷ []) ∷ lines bs) (onto b (lines bs))
+lines (b ∷ bs) = cond (b == 10) ((b ∷ []) ∷ lines bs) (onto_first b (lines bs))
 
 -- The lines that are still to come.
 abbrev pub lines_left : Lines → List (List ℕ)

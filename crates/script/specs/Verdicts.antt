@@ -25,15 +25,8 @@ verdict (Err f) = faulty f
 
 -- The mask of a command names no rig past its length.
 abbrev pub Tidy : Command → Type 0
-Tidy (command.Hall r t) = Unit {0}
 Tidy (command.PumpType m) = m.set < 2 ^ m.rigs
-Tidy (command.Add t n) = Unit {0}
-Tidy (command.Withdraw t n) = Unit {0}
-Tidy (command.Take r) = Unit {0}
-Tidy (command.Shut r) = Unit {0}
-Tidy (command.Open r) = Unit {0}
-Tidy command.Report = Unit {0}
-Tidy (command.Note t) = Unit {0}
+Tidy c = Unit {0}
 
 -- The line has this verdict and no other: not another command, not another fault.
 abbrev pub TheLineHasNoOtherVerdict : List ℕ → Verdict → Type 0

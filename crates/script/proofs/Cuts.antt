@@ -1,17 +1,13 @@
 -- Bytes cut at their commas, and joined again. Assumes nothing.
 use Rattle.std.proofs.Common.{◌≡◌, ℕ, ◌+◌, ◌-◌, ◌<◌, true, false, cond, eqb, List, [], ◌∷◌, ◌++◌, length, take, drop, count_by, sym, refl, ap, ◌∙◌, ⊎_elim, arith}
-use Rattle.std.specs.List.{AllByRecursion, onto_first}
-use Rattle.std.proofs.lemmas.List.{take_all, take-append-drop, append_assoc}
-use Rattle.std.proofs.lemmas.List.Splits.{length-slice_split}
+use Rattle.std.specs.List.{AllByRecursion, onto_first, join_with_byte}
+use Rattle.std.proofs.lemmas.List.{append-nil, take_all, take-append-drop, append_assoc}
+use Rattle.std.proofs.lemmas.List.Splits.{length-slice_split, join_with_byte-slice_split}
 use Rattle.std.proofs.lemmas.List.Sums.{sum_by-cons}
 use Rattle.std.proofs.lemmas.Bool.{ne_eqb}
 use Rattle.std.proofs.lemmas.Bool.Decides.{eqb_tells}
 use Rattle.script.specs.Format.{commas, Commaless, NotComma}
 use Rattle.script.specs.Parts.{parts, after, Ends}
-
-abbrev whole : List (List ℕ) → List ℕ
-whole [] = []
-whole (f ∷ fs) = f ++ commas fs
 
 pub cut_at : (f rest : List ℕ) → Commaless f → Ends rest → parts (f ++ rest) ≡ f ∷ after rest
 cut_at [] [] h e = refl
@@ -31,27 +27,12 @@ length_after (b ∷ bs) e = length-slice_split (λ x. eqb x 44) bs ∙ sym (sum_
 
 -- the parts joined again are the bytes, and no part has a comma
 
-commas_whole : (fs : List (List ℕ)) → 0 < length fs → commas fs ≡ 44 ∷ whole fs
-commas_whole [] h = absurd (omega arith)
-commas_whole (f ∷ fs) h = refl
-
-whole_onto : (b : ℕ) (fs : List (List ℕ)) → whole (onto_first b fs) ≡ b ∷ whole fs
-whole_onto b [] = refl
-whole_onto b (f ∷ fs) = refl
-
-whole_step : (b : ℕ) (fs : List (List ℕ)) → 0 < length fs → whole (cond (eqb b 44) ([] ∷ fs) (onto_first b fs)) ≡ b ∷ whole fs
-whole_step b fs h =
-    ⊎_elim
-    (λ p. rw (p.0, p.1) (commas_whole fs h))
-    (λ p. rw p.0 (whole_onto b fs))
-    (eqb_tells b 44)
-
-whole_parts : (bs : List ℕ) → whole (parts bs) ≡ bs
-whole_parts [] = refl
-whole_parts (b ∷ bs) = whole_step b (parts bs) (omega (arith, length-slice_split (λ x. eqb x 44) bs)) ∙ ap (λ (x : List ℕ). b ∷ x) (whole_parts bs)
+joined_commas : (f : List ℕ) (fs : List (List ℕ)) → join_with_byte 44 (f ∷ fs) ≡ f ++ commas fs
+joined_commas f [] = sym (append-nil f)
+joined_commas f (g ∷ gs) = ap (λ (xs : List ℕ). f ++ 44 ∷ xs) (joined_commas g gs)
 
 pub rejoined : (bs f : List ℕ) (fs : List (List ℕ)) → parts bs ≡ f ∷ fs → bs ≡ f ++ commas fs
-rejoined bs f fs e = sym (whole_parts bs) ∙ ap whole e
+rejoined bs f fs e = sym (join_with_byte-slice_split 44 bs) ∙ ap (join_with_byte 44) e ∙ joined_commas f fs
 
 apart_onto : (b : ℕ) (fs : List (List ℕ)) → NotComma b → AllByRecursion Commaless fs → AllByRecursion Commaless (onto_first b fs)
 apart_onto b [] h k = ((h, tt), tt)

@@ -1,4 +1,4 @@
-ghost use Rattle.std.specs.Prelude.{◌≡◌, [], MatchOption};
+ghost use Rattle.std.specs.Prelude.{◌≡◌, ◌≤◌, [], length, MatchOption};
 ghost use Rattle.std.specs.Iterator.{YieldsFirstRef, item_count};
 ghost use Rattle.script.specs.Texts.{lines, lines_left, StartsWith};
 
@@ -18,9 +18,10 @@ pub struct Lines<'a> {
 }
 
 impl<'a> Lines<'a> {
-    /// The lines of a text.
+    /// The lines of a text. There are no more of them than bytes, so they can be counted.
     pub fn new(text: &'a [u8]) -> Lines<'a>
-        ensures { lines_left result ≡ lines text.now }
+        ensures all { lines_left result ≡ lines text.now }
+        ensures few { length (lines_left result) ≤ length text.now }
     {
         Lines { rest: text }
     }

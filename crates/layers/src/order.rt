@@ -42,7 +42,7 @@ impl Order<'_> {
         self.0.get(rig).map_or(rig, |below| usize::from(*below))
     }
 
-    // The rigs above that are in the set below.
+    // The rigs above that are in the set below. (A loop: a public call that took the test would ask that it may be called.)
     fn set_above(self, rigs: usize, below: RigSet) -> RigSet
         ensures { RigsAre result.word (common (first_rigs rigs) (λ r. has below.word (rig_below self.entry.0.now r))) }
     {

@@ -29,7 +29,7 @@ pub struct RatingSheet<'a> {
     ghost shaped: { Shaped (length rigs.now) (length pumps.now) },
 }
 
-// The rigs of the table that can test the pump.
+// The rigs of the table that can test the pump. (A loop: a public call that took the test would ask that it may be called.)
 fn suited(rigs: &[RigRating], pump: &PumpRating) -> RigSet
     ensures { RigsAre result.word (common (first_rigs (length rigs.now)) (λ r. suits (rig_at rigs.now r) pump.now)) }
 {

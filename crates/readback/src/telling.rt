@@ -11,6 +11,7 @@ use std::alloc::{AllocError, Global};
 fn tell_fault(out: &mut Vec<u8>, number: u32, cause: u8, field: u8) -> Result<(), AllocError>
     ensures { OnOk result (out.new.items ≡ out.old.items ++ fault_told number cause field) }
 {
+    // Made apart and appended, since `write!` to a `Vec` would hide in an `io::Error` that only memory can run out.
     let told = format!(in *out.allocator(); "{number},FAULT,{cause},{field}\n")?;
     out.extend_from_slice(told.as_bytes())
 }

@@ -6,7 +6,7 @@ ghost use Rattle.rigset.specs.Sets.{limit, has, RigsAre, rig_numbered, first_rig
 /// The most rigs that a hall has: the rigs of a set are those below this number.
 pub const RIGS_MAX: usize = 64;
 
-/// A set of rigs: rig r counts 2 to the power r. Every word is one.
+/// A set of rigs: rig r counts 2 to the power r. Every word is one, so tables of sets are slices of numbers.
 #[derive(Clone, Copy, PartialEq, Eq, Debug)]
 pub struct RigSet {
     pub word: u64,
@@ -65,6 +65,7 @@ impl RigSet {
         ensures set { RigsAre self.new.word (without (has self.old.word) rig) }
         ensures answer { result ≡ has self.old.word rig }
     {
+        // A copy, since what the word may be is not at hand behind a `&mut`.
         let before = *self;
         if !before.contains(rig) {
             return false;

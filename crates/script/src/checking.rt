@@ -32,6 +32,7 @@ pub const TEXT_MAX: usize = 65536;
 fn faulty_line(number: u32, line: &[u8]) -> Option<FaultyLine>
     ensures { MatchOption result ((m : Meaning) × Judged line.now (accepted m)) (λ e. Judged line.now (faulty e.fault) × (e.line ≡ number)) }
 {
+    // By cases, since a line without a fault has a command to show for it.
     match read(line) {
         Ok(_) => None,
         Err(fault) => Some(FaultyLine {

@@ -14,7 +14,7 @@ pub(crate) enum Word {
 
 /// The characters of a mask, one for each of `rigs` rigs: rig r has a 1 where `set`, in which rig r
 /// counts 2 to the power r, holds it. Bits of `set` past the last rig are no part of the mask; `==` and
-/// `Debug` are of the fields, and so tell them. A mask that was read has none.
+/// `Debug` are of the fields, and so tell them. A mask that was read has none. (A number, so that this crate needs no sets.)
 #[derive(Clone, Copy, PartialEq, Eq, Debug)]
 pub struct Mask {
     pub rigs: u8,

@@ -6,12 +6,16 @@ use crate::command::{Command, Mask};
 use bounded::{Bounded, Full};
 use itoa::Buffer;
 
+// The functions here take the list that they write to. As methods of a type of its own they would say the same of it, and
+// the one bounded list, which takes no memory, serves both for this and for faulty lines.
+
 fn put(draft: &mut Bounded<'_, u8>, b: u8) -> Result<(), Full>
     ensures { Wrote draft.old (b ∷ []) draft.new result }
 {
     draft.push(b)
 }
 
+// Byte by byte, as each may find the list full.
 fn put_all(draft: &mut Bounded<'_, u8>, bytes: &[u8]) -> Result<(), Full>
     ensures { Wrote draft.old bytes.now draft.new result }
 {
@@ -26,6 +30,7 @@ fn put_mask(draft: &mut Bounded<'_, u8>, m: Mask) -> Result<(), Full>
 {
     let mut left = m.set;
     for _ in 0..m.rigs {
+        // 0 or 1, so that the cast is exact.
         put(draft, b'0' + (left % 2) as u8)?;
         left /= 2;
     }

@@ -15,7 +15,7 @@ pub enum LineFault {
 }
 
 impl LineFault {
-    /// The field that the fault names: the command word is field 1, and 0 stands for the line as a whole.
+    /// The field that the fault names: the command word is field 1, and 0 stands for the line as a whole, as faults are told.
     pub fn field(self) -> u8
         ensures { result ≡ fault_field self }
     {

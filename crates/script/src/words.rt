@@ -39,6 +39,7 @@ impl Word {
     pub(crate) fn named(bytes: &[u8]) -> Option<Word>
         ensures { MatchOption result ((w : Word) → bytes.now ≢ name w) (λ w. bytes.now ≡ name w) }
     {
+        // A loop, since what `find` promises of the words left the result open.
         for word in Word::ALL {
             if word.name() == bytes {
                 return Some(word);

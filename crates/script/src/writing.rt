@@ -10,7 +10,7 @@ use crate::form::LINE_BYTES;
 use crate::reading::read;
 use bounded::Bounded;
 
-/// Why a command is not written.
+/// Why a command is not written. An unknown word is none of the reasons, so this is not a line's fault.
 #[derive(Clone, Copy, PartialEq, Eq, Debug)]
 pub enum WriteRefusal {
     /// Its line would have over 80 bytes before its end byte, or a byte outside 32 to 126.

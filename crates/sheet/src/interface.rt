@@ -14,7 +14,7 @@ pub enum PermittedRefusal {
     NoSuchType = 4,
 }
 
-/// The number by which the refusal is told.
+/// The number by which the refusal is told. (Each refusal has such an impl: no macro can write its ghost member.)
 impl From<PermittedRefusal> for u8 {
     ghost use Rattle.sheet.specs.Numbers.{permitted_number};
 

@@ -10,10 +10,6 @@ use Rattle.layers.specs.declared.order.Order.{Order}
 use Rattle.layers.specs.Judgements.{ApprovalsJudged, OrderJudged}
 use Rattle.permits.proofs.piles.read_pile.Goals as goal
 
--- what holds of a meaning holds of its equal
-at : (P : SheetMeaning → Type 0) (m n : SheetMeaning) → m ≡ n → P m → P n
-at P m n e h = subst P e h
-
 -- each layer stands on what was made before it
 pub returns : goal.returns
 returns c =
@@ -31,7 +27,7 @@ returns c =
     ap middle c.over-pile.ensures.below ∙ approval.means ∙ ap (approved approvals) first in
     let third : top ≡ renumbered order (approved approvals base) = pile.means ∙ ap (renumbered order) second in (
       c.in_ok-fill.ensures.judged,
-      at (λ m. ApprovalsJudged m approvals (Ok tt)) low base first approval.judged,
-      at (λ m. OrderJudged m order (Ok tt)) mid (approved approvals base) second pile.judged,
-      at (λ m. Reads m c.read_sheet.result) top (renumbered order (approved approvals base)) third c.read_sheet.ensures,
+      subst (λ m. ApprovalsJudged m approvals (Ok tt)) first approval.judged,
+      subst (λ m. OrderJudged m order (Ok tt)) second pile.judged,
+      subst (λ m. Reads m c.read_sheet.result) third c.read_sheet.ensures,
     )

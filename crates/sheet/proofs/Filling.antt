@@ -1,11 +1,10 @@
 -- A reading whose places a function gives, one after the other.
-use Rattle.std.proofs.Common.{◌≡◌, ℕ, zero, suc, ◌+◌, ◌<◌, ◌≤◌, List, slice_index_or, sym, ap, ◌∙◌, subst, inl, inr, arith}
+use Rattle.std.proofs.Common.{◌≡◌, ℕ, zero, suc, ◌+◌, ◌<◌, ◌≤◌, List, slice_index_or, sym, subst, inl, inr, arith}
 use denote.Param.Members.{Mut, Called}
 use Rattle.std.proofs.lemmas.List.{get_or_past}
 use Rattle.std.proofs.lemmas.Bool.{cases_eq, cases_lt}
 use Rattle.std.specs.Array.{IsFromFnResultFrom, IsFromFnResult}
 use Rattle.rigset.specs.declared.set.RigSet.{RigSet}
-use Rattle.rigset.specs.Sets.{has}
 use Rattle.rigset.proofs.Digits.{has_none}
 use Rattle.sheet.specs.Meaning.{SheetMeaning}
 use Rattle.sheet.specs.Readings.{PermittedOf, Reads}
@@ -23,16 +22,13 @@ module _ {F : Type 0} {calls : Mut F (ℕ × Unit {0}) RigSet} (m : SheetMeaning
 
   pub reads : {rigs types : ℕ} {f : F} {sets : List RigSet} → rigs ≡ m.rigs → types ≡ m.types → m.types ≤ 64 → Same f →
       IsFromFnResult calls f sets 64 → Reads m (record { rigs = rigs; types = types; permitted = sets })
-  reads {sets = sets} r t few same from =
-      let at : (t : ℕ) → t < 64 → PermittedOf m t (slice_index_or sets t (record { word = 0 })) =
-      λ t small. each_place 64 _ sets 0 same from.each t (record { word = 0 }) (omega arith) (omega arith) in
-      record {
-        rigs = r;
-        types = t;
-        permitted = λ t h. (at t (omega arith)).permitted h;
-        spare = λ t h. elim (cases_lt t 64) [
-          | inl small ↦ (at t small).spare h
-          | inr past ↦ λ r.
-              ap (λ (s : RigSet). has s.word r) (get_or_past sets t (record { word = 0 }) (omega (arith, from.long))) ∙ has_none r
-        ];
-      }
+  reads {sets = sets} r t few same from = record {
+    rigs = r;
+    types = t;
+    sets = λ t. elim (cases_lt t 64) [
+      | inl small ↦ each_place 64 _ sets 0 same from.each t (record { word = 0 }) (omega arith) (omega arith)
+      | inr past ↦
+          subst (PermittedOf m t) (sym (get_or_past sets t (record { word = 0 }) (omega (arith, from.long))))
+          (record { permitted = λ h. absurd (omega arith); spare = λ h. has_none })
+    ];
+  }

@@ -6,9 +6,9 @@ use Rattle.rigset.specs.Sets.{RigsAre}
 use Rattle.sheet.specs.Meaning.{SheetMeaning}
 use Rattle.sheet.specs.declared.reading.Reading.{Reading}
 
--- The word of the set at a place, and of the empty set past the last place.
-abbrev pub word_at : List RigSet → ℕ → ℕ
-word_at sets t = (slice_index_or sets t (record { word = 0 })).word
+-- The set at a place, and the empty set past the last place.
+abbrev pub set_at : List RigSet → ℕ → RigSet
+set_at sets t = slice_index_or sets t (record { word = 0 })
 
 -- The set is the permitted set of the type t, or the empty set if t is no type.
 pub record PermittedOf (m : SheetMeaning) (t : ℕ) (set : RigSet) : Type 0 where
@@ -20,5 +20,4 @@ pub record PermittedOf (m : SheetMeaning) (t : ℕ) (set : RigSet) : Type 0 wher
 pub record Reads (m : SheetMeaning) (read : Reading) : Type 0 where
   pub rigs : read.rigs ≡ m.rigs
   pub types : read.types ≡ m.types
-  pub permitted : (t : ℕ) → t < m.types → RigsAre (word_at read.permitted t) (m.permitted t)
-  pub spare : (t : ℕ) → m.types ≤ t → RigsAre (word_at read.permitted t) no_rig
+  pub sets : (t : ℕ) → PermittedOf m t (set_at read.permitted t)

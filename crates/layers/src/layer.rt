@@ -12,6 +12,9 @@ pub trait Table: Copy {
     /// What the meaning of the sheet below becomes.
     ghost changed: { Self → SheetMeaning → SheetMeaning };
 
+    /// The table changes neither how many rigs there are nor how many types, and names no foreign rig.
+    ghost keeps: { (t : Self) → KeepsItsShape (changed t) };
+
     /// The answer to the table, where the sheet below has this meaning.
     ghost judged: { Self → SheetMeaning → Result (Unit {0}) FillRefusal → Type 0 };
 
@@ -26,9 +29,6 @@ pub trait Table: Copy {
     /// The rigs that may test pumps of a type, by the table and the sheet below.
     fn permitted<S: Sheet>(&self, below: &S, kind: usize) -> Result<RigSet, PermittedRefusal>
         ensures { Permits (changed self.now (S.Sheet.meaning below.now)) kind result };
-
-    /// The table changes neither how many rigs there are nor how many types, and names no foreign rig.
-    ghost keeps: { (t : Self) → KeepsItsShape (changed t) };
 }
 
 /// A layer: a sheet below, and a table that changes what it means.

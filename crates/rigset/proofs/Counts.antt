@@ -1,5 +1,5 @@
 -- How many rigs a set has, and what they count.
-use Rattle.std.proofs.Common.{◌≡◌, ℕ, zero, suc, ◌+◌, ◌*◌, ◌%◌, ◌^◌, ◌<◌, true, cond, eqb, sym, refl, ap, ◌∙◌, mod-lt, mod-eq_of_lt, one-add, arith, pow_pos}
+use Rattle.std.proofs.Common.{◌≡◌, ℕ, zero, suc, ◌+◌, ◌*◌, ◌%◌, ◌^◌, ◌<◌, Bool, true, cond, not, ◌&&◌, eqb, sym, refl, ap, ◌∙◌, mod-lt, mod-eq_of_lt, one-add, arith, pow_pos}
 use native.Mathlib.Nat.{mod-one}
 use Rattle.std.specs.Int.{bit_at}
 use Rattle.std.specs.Int.Count.{ones}
@@ -7,7 +7,8 @@ use Rattle.std.proofs.lemmas.Nat.{ones_cat, mod-pow-add}
 use Rattle.std.proofs.lemmas.Nat.Bits.{bit_at-lt}
 use Rattle.std.proofs.lemmas.Bool.Decides.{nat_tests}
 use Rattle.levelling.specs.Sums.{sum_over, size}
-use Rattle.levelling.proofs.Sums.{over_same, size_with_one}
+use Rattle.levelling.specs.Levels.{no_rig}
+use Rattle.levelling.proofs.Sums.{sum_same, sum_zero, sum_add, sum_spot}
 use Rattle.rigset.specs.Sets.{limit, has, without, RigsAre}
 
 pub limit_is : limit ≡ 64
@@ -49,8 +50,25 @@ pub ones_size : (m : ℕ) → m < 2 ^ 64 → ones m ≡ size limit (has m)
 unfolding limit
 ones_size m h = ap ones (sym (mod-eq_of_lt h)) ∙ ones_mod 64 m
 
--- one rig fewer is left where one is taken out
+-- a sum over no rig
+pub over_none : (m : ℕ) (f : ℕ → ℕ) → RigsAre m no_rig → sum_over limit (has m) f ≡ 0
+over_none m f none = sum_zero limit _ (λ i l. ap (λ (b : Bool). cond b (f i) 0) (none i))
+
+-- a sum over the rigs of a set, where one rig is taken out
+pub over_without : (m n r : ℕ) (f : ℕ → ℕ) → r < 64 → has m r ≡ true → RigsAre n (without (has m) r) →
+    sum_over limit (has n) f + f r ≡ sum_over limit (has m) f
+over_without m n r f small h left =
+    let split = sum_same limit (λ i. cond (has m i) (f i) 0) (λ i. cond (has n i) (f i) 0 + cond (eqb i r) (f r) 0) (λ i l. at i) in
+    let add = sum_add limit (λ i. cond (has n i) (f i) 0) (λ i. cond (eqb i r) (f r) 0) in
+    omega (arith, split, add, sum_spot limit r (f r) (omega (arith, limit_is)))
+  where
+    term : (b c : Bool) (i x y : ℕ) → (i ≡ r → x ≡ y) → (i ≡ r → b ≡ true) → c ≡ (b && not (eqb i r)) →
+        cond b x 0 ≡ cond c x 0 + cond (eqb i r) y 0
+    term b c i x y v t e = grind (arith, nat_tests)
+
+    at : (i : ℕ) → cond (has m i) (f i) 0 ≡ cond (has n i) (f i) 0 + cond (eqb i r) (f r) 0
+    at i = term (has m i) (has n i) i (f i) (f r) (ap f) (λ e. ap (has m) e ∙ h) (left i)
+
+-- so one rig fewer is left
 pub size_without : (m n r : ℕ) → r < 64 → has m r ≡ true → RigsAre n (without (has m) r) → size limit (has n) + 1 ≡ size limit (has m)
-size_without m n r small h left =
-    sym (size_with_one limit (has n) r (omega (arith, limit_is)) (left r ∙ grind (arith, nat_tests)))
-    ∙ over_same limit _ (has m) _ (λ i. 1) (λ i l. grind (arith, nat_tests, left i)) (λ i l. refl)
+size_without m n r = over_without m n r (λ i. 1)

@@ -1,9 +1,9 @@
 -- The rigs of a word, digit by digit.
-use Rattle.std.proofs.Common.{◌≡◌, ℕ, ◌-◌, ◌^◌, ◌<◌, ◌≤◌, true, false, not, ◌&&◌, ◌||◌, eqb, ltb, ap, arith}
-use Rattle.std.specs.Int.{trailing_zeros, w64}
+use Rattle.std.proofs.Common.{◌≡◌, ℕ, zero, suc, ◌-◌, ◌/◌, ◌^◌, ◌<◌, ◌≤◌, true, false, not, ◌&&◌, ◌||◌, eqb, ltb, sym, ap, ◌∙◌, pow-suc, arith}
+use Rattle.std.specs.Int.{bit_at, trailing_zeros, w64}
 use lib.Bits.{bit_and, bit_or}
 use Rattle.std.proofs.lemmas.Bool.Decides.{nat_tests}
-use Rattle.std.proofs.lemmas.Nat.Bits.{bit_at-lt, bit_at-zero, bit_at_and, bit_at_or, bit_at_not, bit_at_ones, bit_at_ones_above, bit_at-pow_same, bit_at-pow_other, bit_at_above, bit_at-trailing_zeros, same_from_bits_below}
+use Rattle.std.proofs.lemmas.Nat.Bits.{bit_at-lt, bit_at-zero, bit_at_lowest, bit_at-suc, bit_at_and, bit_at_or, bit_at_ones, bit_at_ones_above, bit_at-pow_same, bit_at-pow_other, bit_at_above, bit_at-trailing_zeros, same_from_bits_below}
 use Rattle.rigset.specs.Sets.{has, LowestOf}
 
 -- a number is its digits
@@ -35,10 +35,16 @@ pub has_or : (a b r : ℕ) → has (bit_or a b) r ≡ (has a r || has b r)
 unfolding has
 has_or a b r = grind (arith, nat_tests, bit_at_or a b r, bit_at-lt a r, bit_at-lt b r)
 
--- the digits of !m, where m has 64 digits
-pub has_not : (m r : ℕ) → m < 2 ^ 64 → r < 64 → has (2 ^ 64 - 1 - m) r ≡ not (has m r)
+-- the digits of !m, where m has k digits (the library says it only for the widths of numbers)
+pub has_not : (k m r : ℕ) → m < 2 ^ k → r < k → has (2 ^ k - 1 - m) r ≡ not (has m r)
 unfolding has
-has_not m r h l = grind (arith, nat_tests, bit_at_not w64 m r h l, bit_at-lt m r)
+has_not zero m r h l = absurd (omega arith)
+has_not (suc k) m zero h l =
+    grind (arith, nat_tests, bit_at_lowest (2 ^ suc k - 1 - m), bit_at_lowest m, pow-suc 2 k)
+has_not (suc k) m (suc r) h l =
+    let half : (2 ^ suc k - 1 - m) / 2 ≡ 2 ^ k - 1 - m / 2 = omega (arith, pow-suc 2 k) in
+    ap (λ (x : ℕ). eqb x 1) (bit_at-suc (2 ^ suc k - 1 - m) r ∙ ap (λ (x : ℕ). bit_at x r) half)
+    ∙ has_not k (m / 2) r (omega (arith, pow-suc 2 k)) (omega arith) ∙ ap (λ (x : ℕ). not (eqb x 1)) (sym (bit_at-suc m r))
 
 -- the rigs below k
 pub has_ones : (k r : ℕ) → has (2 ^ k - 1) r ≡ ltb r k

@@ -61,7 +61,7 @@ insert_old m n h r = grind (arith, nat_tests)
 pub remove_old : (m n : ℕ) → m < 2 ^ 64 → n < 64 → RigsAre (bit_and m (2 ^ 64 - 1 - (1 * 2 ^ n) % 2 ^ 64)) (without (has m) n)
 remove_old m n small h r =
     ap (λ (x : ℕ). has (bit_and m (2 ^ 64 - 1 - x)) r) (one_shl n 64 h) ∙ has_and m (2 ^ 64 - 1 - 2 ^ n) r
-    ∙ grind (arith, nat_tests, has_not (2 ^ n) r (pow_below n 64 h), has_pow n r, has_past 64 m r small)
+    ∙ grind (arith, nat_tests, has_not 64 (2 ^ n) r (pow_below n 64 h), has_pow n r, has_past 64 m r small)
 
 subset_all : (a b : ℕ) → a < 2 ^ 64 → Decides (eqb (bit_and a b) a) (Inside limit (has a) (has b))
 subset_all a b h = (

@@ -30,6 +30,10 @@ pub trait Sheet {
     /// What the sheet means.
     ghost meaning: { Self → SheetMeaning };
 
+    /// From 1 to 64 rigs, from 1 to 64 types, and each permitted set within the rigs. (Above the calls, and so no law: a
+    /// clause may name it too.)
+    ghost lawful: { (s : Self) → Lawful (meaning s) };
+
     /// How many rigs there are.
     fn rigs(&self) -> usize
         ensures { result ≡ (meaning self.now).rigs };
@@ -41,7 +45,4 @@ pub trait Sheet {
     /// The rigs that may test pumps of a type; refused if there is no such type.
     fn permitted(&self, kind: usize) -> Result<RigSet, PermittedRefusal>
         ensures { Permits (meaning self.now) kind result };
-
-    /// From 1 to 64 rigs, from 1 to 64 types, and each permitted set within the rigs.
-    ghost lawful: { (s : Self) → Lawful (meaning s) };
 }

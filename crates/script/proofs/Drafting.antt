@@ -1,5 +1,6 @@
 -- Bytes that join a draft, one after another. Assumes nothing.
-use Rattle.std.proofs.Common.{◌≡◌, ℕ, suc, ◌+◌, ◌-◌, ◌/◌, ◌%◌, ◌<◌, true, List, [], ◌∷◌, ◌++◌, map, length, get_or, take, drop, is_err, decimal, Result, sym, ap, ◌∙◌, subst, ◌⊎◌, inl, inr, arith}
+use Rattle.std.proofs.Common.{◌≡◌, ℕ, suc, ◌+◌, ◌-◌, ◌/◌, ◌%◌, ◌<◌, ◌≤◌, true, List, [], ◌∷◌, ◌++◌, map, length, get_or, take, drop, is_err, decimal, Result, sym, ap, ◌∙◌, subst, ◌⊎◌, inl, inr, arith}
+use Rattle.std.proofs.lemmas.Fmt.{decimal_digit, decimal_step}
 use Rattle.std.proofs.lemmas.List.{append_assoc, append-nil, length-append, map-append, take_more, take-append-drop}
 use Rattle.std.proofs.lemmas.Result.{MatchResult-from_err, MatchResult-weaker}
 use Rattle.bounded.specs.Entries.{entries, spare}
@@ -11,6 +12,9 @@ use Rattle.script.specs.declared.command.Command.{Command}
 use Rattle.script.specs.declared.command.Command.TheVariants as command
 use Rattle.script.proofs.Cuts.{commas_append}
 use Rattle.script.proofs.Numerals.{marked}
+
+pub extends_none : (d : Bounded ℕ) → Extends d [] d
+extends_none d = record { held = sym (append-nil (entries d)); used = omega arith }
 
 module _ (a b c : Bounded ℕ) (xs ys zs : List ℕ) (is : zs ≡ xs ++ ys) (so : Extends a xs b) where
   sum : length zs ≡ length xs + length ys
@@ -41,6 +45,12 @@ pub wrote_as : (a c : Bounded ℕ) (xs zs : List ℕ) (r : Result (Unit {0}) Ful
 wrote_as a c xs zs r e w = subst (λ (ys : List ℕ). Wrote a ys c r) (sym e) w
 
 -- numbers and masks
+
+pub decimal_last : (n : ℕ) → 10 ≤ n → n < 65536 → decimal n ≡ decimal (n / 10) ++ (48 + n % 10) ∷ []
+decimal_last n h l = decimal_step n h (omega arith)
+
+pub decimal_only : (n : ℕ) → n < 10 → decimal n ≡ (48 + n % 10) ∷ []
+decimal_only n h = let e : n ≡ n % 10 = omega arith in decimal_digit n h ∙ ap (λ (k : ℕ). (48 + k) ∷ []) e
 
 pub marks_next : (k set : ℕ) → 0 < k → shown mask (marks k set) ≡ (48 + set % 2) ∷ shown mask (marks (k - 1) (set / 2))
 marks_next k set h =

@@ -11,7 +11,7 @@ use Rattle.script.proofs.Firsts.{none_before}
 use Rattle.script.proofs.Laws.{not_faulty, one_verdict}
 
 -- A byte that does not end a line.
-abbrev Inner : ℕ → Type 0
+abbrev pub Inner : ℕ → Type 0
 Inner b = b ≡ 10 → ⊥
 
 line_at : (f rest : List ℕ) → AllByRecursion Inner f → lines (f ++ 10 ∷ rest) ≡ (f ++ 10 ∷ []) ∷ lines rest

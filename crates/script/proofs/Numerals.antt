@@ -1,13 +1,13 @@
 -- Numerals without needless zeros, and masks of ones and zeros. Assumes nothing.
-use Rattle.std.proofs.Common.{◌≡◌, ℕ, ◌+◌, ◌-◌, ◌*◌, ◌/◌, ◌%◌, ◌^◌, ◌<◌, ◌≤◌, Bool, true, false, cond, eqb, Ok, Err, Result, Option, List, [], ◌∷◌, length, get_or, drop, reverse, decimal, sym, ap, ◌∙◌, subst, ⊎_elim, pow-suc, add-one, arith, refl, MatchOption}
+use Rattle.std.proofs.Common.{◌≡◌, ℕ, zero, suc, ◌+◌, ◌-◌, ◌*◌, ◌/◌, ◌%◌, ◌^◌, ◌<◌, ◌≤◌, Bool, true, false, cond, eqb, Ok, Err, Result, Option, List, [], ◌∷◌, length, get_or, drop, reverse, decimal, sym, ap, ◌∙◌, subst, ⊎_elim, pow-suc, add-one, arith, rules, refl, MatchOption}
 use Rattle.std.specs.List.{AllByRecursion}
 use Rattle.std.specs.Bool.{then_some}
-use Rattle.std.specs.Result.{result_ok}
-use Rattle.std.specs.Str.{IsUtf8}
-use Rattle.std.specs.Str.Parse.{AllDigits, ParsesUnsigned, digits_value}
-use Rattle.std.proofs.lemmas.Str.{IsUtf8-from_ascii}
-use Rattle.std.proofs.lemmas.Str.Parse.{IsNumeralModel, numerals_by_value, tells_digits, digit_at, parse_plain}
-use Rattle.std.proofs.lemmas.Fmt.{IsAscii-from_digits, decimal-digits_value, decimal_is_IsNumeral, decimal_digit, first_decimal, parse-decimal, decimal_injective}
+use Rattle.std.specs.Result.{OkIff, result_ok}
+use Rattle.std.specs.Str.Parse.{AllDigits, digits_value}
+use Rattle.std.specs.Char.{digit_value as digitValue}
+use Rattle.std.proofs.lemmas.Int.Digits.{digits_value-lt}
+use Rattle.std.proofs.lemmas.Str.Parse.{IsNumeralModel, numerals_by_value, tells_digits}
+use Rattle.std.proofs.lemmas.Fmt.{decimal-digits_value, decimal_is_IsNumeral, decimal_digit, first_decimal, length-decimal-le, decimal_injective}
 use Rattle.std.proofs.lemmas.Bool.{cases_eq}
 use Rattle.std.proofs.lemmas.List.{drop_more, get_or-reverse, length-reverse}
 use Rattle.std.proofs.lemmas.List.Elements.{All-from_recursion}
@@ -18,43 +18,38 @@ use Rattle.script.specs.declared.fields.Count.{Count}
 own : IsNumeralModel (AllDigits 10) (digits_value 10)
 own = numerals_by_value (AllDigits 10) tells_digits
 
--- how a number is written
-record Numeric (f : List ℕ) : Type 0 where
-  digits : AllDigits 10 f
-  some : 0 < length f
-  canon : get_or f 0 0 ≡ 48 → length f ≡ 1
+pub short_value : (f : List ℕ) → AllDigits 10 f → length f ≤ 5 → digits_value 10 f < 100000
+short_value f d h = search (rules, digits_value-lt)
+
+pub numeral_of : (f : List ℕ) → AllDigits 10 f → 0 < length f → length f ≤ 5 → (get_or f 0 0 ≡ 48 → length f ≡ 1) → f ≡ decimal (digits_value 10 f)
+numeral_of f d some short canon = sym (decimal-digits_value own f d some canon (omega (arith, short_value f d short)))
+
+-- f is how n is written
+pub record Numeric (f : List ℕ) (n : ℕ) : Type 0 where
+  pub digits : AllDigits 10 f
+  pub some : 0 < length f
+  pub short : length f ≤ 5
+  pub is : digits_value 10 f ≡ n
+  pub canon : get_or f 0 0 ≡ 48 → length f ≡ 1
 
 canonical : (n : ℕ) → n ≤ 65535 → get_or (decimal n) 0 0 ≡ 48 → length (decimal n) ≡ 1
 canonical n h e = ⊎_elim (λ z. ap length (decimal_digit n (omega arith))) (λ z. absurd (omega (arith, first_decimal n (omega arith) (omega arith)))) (cases_eq n 0)
 
-numeric : (f : List ℕ) → Good number f → Numeric f
-numeric f g =
-    let r = decimal_is_IsNumeral g.0 (omega (arith, g.1)) in
-    subst Numeric (sym g.2) (record { digits = r.0.1; some = r.0.0; canon = canonical g.0 g.1 })
+numeric : (n : ℕ) → n ≤ 65535 → Numeric (decimal n) n
+numeric n h =
+    let r = decimal_is_IsNumeral n (omega arith) in
+    record { digits = r.0.1; some = r.0.0; short = length-decimal-le 5 n (omega arith) (omega arith) (omega arith); is = r.1; canon = canonical n h }
 
--- no number begins with a sign, or with a zero and more
-pub no_sign : (f : List ℕ) → get_or f 0 0 ≡ 43 → Good number f → ⊥
-no_sign f e g = let q = numeric f g in omega (arith, digit_at f 0 q.digits q.some)
+pub numeric_of : (f : List ℕ) (g : Good number f) → Numeric f g.0
+numeric_of f g = subst (λ (b : List ℕ). Numeric b g.0) (sym g.2) (numeric g.0 g.1)
 
-pub no_zeros : (f : List ℕ) → get_or f 0 0 ≡ 48 → 2 ≤ length f → Good number f → ⊥
-no_zeros f e l g = let q = numeric f g in omega (arith, q.canon e)
+-- what fits a u16 is the number, and what doesn't is none
+pub number_if : (E : Type 0) (f : List ℕ) (n : ℕ) (r : Result ℕ E) (o : Option ℕ) → o ≡ result_ok r → OkIff r (n < 65536) n → f ≡ decimal n → ((g : Good number f) → g.0 ≡ n) → MatchOption o (Good number f → ⊥) (λ v. Fit number v × (f ≡ shown number v))
+number_if E f n (Ok x) o e h w same = rw (e, h.1) (omega (arith, h.0), w)
+number_if E f n (Err x) o e h w same = rw e (λ g. h (omega (arith, same g, g.1)))
 
--- a number is text
-pub number_text : (f : List ℕ) → Good number f → IsUtf8 f
-number_text f g = let q = numeric f g in IsUtf8-from_ascii f (IsAscii-from_digits f q.digits)
-
-pub number_parsed : {E : Type 0} (f : List ℕ) (r : Result ℕ E) → ParsesUnsigned 16 10 f r → (g : Good number f) → r ≡ Ok g.0
-number_parsed f r h g = parse-decimal 16 g.0 f r (omega (arith, g.1)) (omega (arith, g.1)) g.2 h
-
-pub number_is : {E : Type 0} (f : List ℕ) (n : ℕ) (r : Result ℕ E) → r ≡ Ok n → ParsesUnsigned 16 10 f r → (get_or f 0 0 ≡ 43 → ⊥) → (get_or f 0 0 ≡ 48 → length f ≤ 1) → (n ≤ 65535) × (f ≡ decimal n)
-number_is f n r e h sign canon =
-    let p = rw e at (parse_plain own 16 f r h sign) in
-    (omega (arith, p), sym (decimal-digits_value own f p.0.0 p.0.1 (λ z. omega (arith, canon z)) (omega (arith, p))) ∙ ap decimal (sym p.1))
-
--- what is parsed, if it is, is the number; and what is not is none
-pub number_or : (E : Type 0) (f : List ℕ) (r : Result ℕ E) (o : Option ℕ) → o ≡ result_ok r → ParsesUnsigned 16 10 f r → (get_or f 0 0 ≡ 43 → ⊥) → (get_or f 0 0 ≡ 48 → length f ≤ 1) → MatchOption o (Good number f → ⊥) (λ n. Fit number n × (f ≡ shown number n))
-number_or E f (Ok n) o e h sign canon = let k : (n ≤ 65535) × (f ≡ decimal n) = number_is {E = E} f n (Ok n) refl h sign canon in rw e k
-number_or E f (Err x) o e h sign canon = rw e (λ g. let k : ◌≡◌ {A = Result ℕ E} (Err x) (Ok g.0) = number_parsed {E = E} f (Err x) h g in cc)
+pub digit_value : (c : ℕ) → 48 ≤ c → c ≤ 57 → digitValue c ≡ c - 48
+digit_value c h k = grind (arith, nat_tests)
 
 -- masks
 
@@ -76,17 +71,21 @@ masked_at f g n b h e =
     let a = All-from_recursion Bit f (subst (AllByRecursion Bit) (sym g.2) (bits_of g.0)) (length f - 1 - n) b (omega arith) in
     subst Bit (sym (e ∙ get_or-reverse f n b k)) a
 
+pub length_marks : (n set : ℕ) → length (marks n set) ≡ n
+length_marks zero set = refl
+length_marks (suc n) set = ap suc (length_marks n (set / 2))
+
 pub marked : (d : ℕ) → d < 2 → 48 + d ≡ cond (eqb d 1) 49 48
 marked d h = grind (arith, nat_tests)
 
 -- one more mark in front
-marks_more : (n set d : ℕ) → d < 2 → (48 + d) ∷ shown mask (marks n set) ≡ shown mask (marks (n + 1) (set * 2 + d))
+pub marks_more : (n set d : ℕ) → d < 2 → (48 + d) ∷ shown mask (marks n set) ≡ shown mask (marks (n + 1) (set * 2 + d))
 marks_more n set d h =
     let q : (set * 2 + d) / 2 ≡ set = omega arith in
     let r : (set * 2 + d) % 2 ≡ d = omega arith in
     rw (add-one, q, r, marked d h)
 
-set_more : (n set d : ℕ) → d < 2 → set < 2 ^ n → set * 2 + d < 2 ^ (n + 1)
+pub set_more : (n set d : ℕ) → d < 2 → set < 2 ^ n → set * 2 + d < 2 ^ (n + 1)
 set_more n set d h l = rw (add-one, pow-suc) (omega arith)
 
 -- The last n bytes are the marks of this set, rig 0 the first of them.

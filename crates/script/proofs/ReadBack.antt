@@ -1,5 +1,5 @@
 -- From a draft of a command's line to what is written. Assumes nothing.
-use Rattle.std.proofs.Common.{◌≡◌, ℕ, ◌≤◌, List, [], ◌∷◌, ◌++◌, length, get_or, take, drop, sym, ap, ◌∙◌, subst, arith}
+use Rattle.std.proofs.Common.{◌≡◌, ℕ, ◌<◌, ◌≤◌, List, [], ◌∷◌, ◌++◌, length, get_or, take, drop, sym, ap, ◌∙◌, subst, arith}
 use Rattle.std.proofs.lemmas.List.{length_push, same_from_push, take_at}
 use Rattle.script.specs.Format.{Meaning, meaning, name, shape, fields, front, commas, line, Accepted, Faulty}
 use Rattle.script.specs.Parts.{parts, after}
@@ -35,6 +35,10 @@ sized_held (command.Shut r) h = (h, tt)
 sized_held (command.Open r) h = (h, tt)
 sized_held command.Report h = tt
 sized_held (command.Note t) h = (tt, tt)
+
+-- a line of more than 81 bytes is malformed
+pub too_long : (m : Meaning) → 81 < length (line m) → Faulty (line m) Malformed
+too_long m h b f = omega (arith, ap length f.ended ∙ length_push b 10, f.short)
 
 -- a command's line begins with its word
 pub word_known : (m : Meaning) → Faulty (line m) UnknownWord → ⊥

@@ -4,7 +4,6 @@ ghost use Rattle.script.specs.Format.{mask, shown, marks, meaning, fields, comma
 
 use crate::command::{Command, Mask};
 use bounded::{Bounded, Full};
-use itoa::Buffer;
 
 // The functions here take the list that they write to. As methods of a type of its own they would say the same of it, and
 // the one bounded list, which takes no memory, serves both for this and for faulty lines.
@@ -37,12 +36,22 @@ fn put_mask(draft: &mut Bounded<'_, u8>, m: Mask) -> Result<(), Full>
     Ok(())
 }
 
+// The digits of a number. (Written here, so that no crate that prints them has to be trusted.)
+fn put_decimal(draft: &mut Bounded<'_, u8>, n: u16) -> Result<(), Full>
+    ensures { Wrote draft.old (decimal n) draft.new result }
+{
+    if n >= 10 {
+        put_decimal(draft, n / 10)?;
+    }
+    put(draft, b'0' + (n % 10) as u8)
+}
+
 // A number after its comma.
 fn put_number(draft: &mut Bounded<'_, u8>, n: u16) -> Result<(), Full>
     ensures { Wrote draft.old (44 ∷ decimal n) draft.new result }
 {
     put(draft, b',')?;
-    put_all(draft, Buffer::new().format(n).as_bytes())
+    put_decimal(draft, n)
 }
 
 // Each of the numbers, after its comma.

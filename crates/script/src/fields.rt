@@ -13,6 +13,9 @@ const COUNT_MAX: u16 = 4096;
 /// The most characters that a mask has.
 const MASK_MAX: usize = 64;
 
+/// The most digits that a number has, as 65,535.
+const DIGITS_MAX: usize = 5;
+
 /// What one field holds.
 pub(crate) trait FieldValue: Sized {
     ghost form: { Form };
@@ -39,13 +42,22 @@ impl FieldValue for u16 {
 
     ghost good = { Prim.search rules };
 
+    // Digit by digit, as a field is bytes: `str::from_utf8` and `str::parse` cost several times as much.
     fn parse(field: &[u8]) -> Option<u16> {
-        // `str::parse` takes a plus sign and needless zeros too.
-        if matches!(field, [b'+', ..] | [b'0', _, ..]) {
+        if let [b'0', _, ..] = field {
             return None;
         }
-        let text = str::from_utf8(field).ok()?;
-        text.parse().ok()
+        if field.is_empty() || field.len() > DIGITS_MAX {
+            return None;
+        }
+        let mut n: u32 = 0;
+        for b in field {
+            if !b.is_ascii_digit() {
+                return None;
+            }
+            n = n * 10 + u32::from(*b - b'0');
+        }
+        u16::try_from(n).ok()
     }
 }
 

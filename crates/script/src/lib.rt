@@ -1,6 +1,6 @@
 //! Script lines: commands, reading a line, writing a line, checking a text.
 //! Promise: a line is read as the one command whose line it is, or refused for the one fault that it has.
-//! Rests on `bounded`, for the list of faulty lines and for the draft of a line, and on `itoa`, for its numbers.
+//! Rests on `bounded`, for the list of faulty lines and for the draft of a line.
 #![tactic(auto)]
 
 mod checking;

@@ -13,8 +13,14 @@ use crate::form::front_of;
 fn read_word(front: &[u8]) -> Option<(Word, &[u8])>
     ensures { MatchOption result ((w : Word) (fs : List (List ℕ)) → parts front.now ≢ name w ∷ fs) (λ x. Ends x.1.now × (parts front.now ≡ name x.0 ∷ after x.1.now)) }
 {
-    let (first, rest) = cut_field(front);
-    Some((Word::named(first)?, rest))
+    // A word is short, so that the comma after it is looked for no further: a faulty line may be long, and have none.
+    let (first, _) = cut_field(&front[..front.len().min(Word::LEN_MAX + 1)]);
+    let word = Word::named(first)?;
+    let (_, rest) = front.split_at(first.len());
+    match rest {
+        [] | [b',', ..] => Some((word, rest)),
+        _ => None,
+    }
 }
 
 // The command with this word and the fields that follow, which are as many as the word takes.

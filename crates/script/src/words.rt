@@ -1,22 +1,11 @@
 ghost use Rattle.std.specs.Prelude.{◌≡◌, ◌≢◌, length, MatchOption};
 ghost use Rattle.script.specs.Format.{name, shape, meaning};
-ghost use Rattle.script.specs.declared.command.Word.{Word};
 
 use crate::command::{Command, Word};
 
 impl Word {
-    // The words, each once.
-    const ALL: [Word; 9] = [
-        Word::Hall,
-        Word::PumpType,
-        Word::Add,
-        Word::Withdraw,
-        Word::Take,
-        Word::Shut,
-        Word::Open,
-        Word::Report,
-        Word::Note,
-    ];
+    // The most bytes that a word has, as WITHDRAW.
+    pub(crate) const LEN_MAX: usize = 8;
 
     // The word as it is written.
     pub(crate) fn name(self) -> &'static [u8]
@@ -39,13 +28,18 @@ impl Word {
     pub(crate) fn named(bytes: &[u8]) -> Option<Word>
         ensures { MatchOption result ((w : Word) → bytes.now ≢ name w) (λ w. bytes.now ≡ name w) }
     {
-        // A loop, since what `find` promises of the words left the result open.
-        for word in Word::ALL {
-            if word.name() == bytes {
-                return Some(word);
-            }
+        match bytes {
+            b"HALL" => Some(Word::Hall),
+            b"TYPE" => Some(Word::PumpType),
+            b"ADD" => Some(Word::Add),
+            b"WITHDRAW" => Some(Word::Withdraw),
+            b"TAKE" => Some(Word::Take),
+            b"SHUT" => Some(Word::Shut),
+            b"OPEN" => Some(Word::Open),
+            b"REPORT" => Some(Word::Report),
+            b"NOTE" => Some(Word::Note),
+            _ => None,
         }
-        None
     }
 
     // How many fields follow the word.
